@@ -1,6 +1,5 @@
 -- The facts at an address stand together, and what is narrowed down to them is found so.
-use Rattle.std.proofs.Common.{◌≡◌, ℕ, zero, suc, ◌+◌, ◌<◌, ◌≤◌, Bool, true, false, get_or, List, [], ◌∷◌, length, take, drop, refl, ap, ◌∙◌, arith, eqb, ltb, leb}
-use Rattle.std.specs.Prelude.{filter}
+use Rattle.std.proofs.Common.{◌≡◌, ℕ, zero, suc, ◌+◌, ◌<◌, ◌≤◌, true, false, get_or, List, [], ◌∷◌, length, take, drop, refl, ap, arith, eqb, ltb, leb}
 use Rattle.std.specs.List.{AllWithin}
 use Rattle.std.specs.List.Sorted.{IsNonDecreasingBy, IsPartitionPoint}
 use Rattle.std.proofs.lemmas.Bool.Decides.{nat_tests}

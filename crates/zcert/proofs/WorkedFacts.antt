@@ -1,9 +1,7 @@
 -- Values of version 5 of the format, computed.
-use Rattle.std.proofs.Common.{◌≡◌, true, false, ℕ, List, [], ◌∷◌, ◌++◌, replicate, None, Some, Ok, Err, refl, arith, take, drop, zero, suc}
-use Rattle.std.specs.List.{AllByRecursion}
+use Rattle.std.proofs.Common.{◌≡◌, true, false, ℕ, List, [], ◌∷◌, ◌++◌, replicate, Some, Ok, Err, refl, arith, take, drop}
 use Rattle.zdomain.specs.declared.values.Values.{Values}
 use Rattle.zdomain.specs.declared.values.Values.TheVariants.{Run}
-use Rattle.zdomain.specs.declared.interval.Interval.{Interval}
 use Rattle.zdomain.specs.Interval.{point}
 use Rattle.zcert.specs.declared.edition.Edition.TheVariants as editions
 use Rattle.zcert.specs.declared.error.CertError.TheVariants as errors
@@ -20,7 +18,7 @@ use Rattle.zcert.specs.Numbers.{width, number}
 use Rattle.zcert.specs.Numbers as numbers
 use Rattle.zcert.specs.Spelling.{fact_bytes, facts_bytes, heading, spelling, IsFact, HasSpelling}
 use Rattle.zcert.specs.Reading.{global_fits, fact_at, facts_from, all_facts_at, reading, fields_at, heading_at, magic_at, version_at, identity_at, limit_at, range_at, ranges_at, all_ranges_at, values_at, routine_at, routines_at, all_routines_at, instruction_at, instructions_at, all_instructions_at, at_end}
-use Rattle.zcert.specs.Building.{Progress, opening, behind_instructions, before_instructions, before_facts, with_fact, InTurn, taken, all_taken, Adds, IsDue}
+use Rattle.zcert.specs.Building.{Progress, opening, behind_instructions, before_instructions, before_facts, with_fact, InTurn, taken, Adds, IsDue}
 use Rattle.zcert.specs.Fields.{field_bytes, IsField, field_at}
 use Rattle.zcert.specs.Turns.{IsOfSet, field_width}
 use Rattle.zcert.specs.Unfinished.{values_turns}

@@ -6,7 +6,7 @@ ghost use Rattle.zcheck.specs.Passes.{IsCause, IsRefused, Passes};
 use crate::refusal::Refusal;
 use crate::story_rules::broken_story_rule;
 use zcert::{Certificate, Spelled};
-use zrule::judge;
+use zrule::judge_in;
 use zruns::{Room, Tables};
 use zstory::Story;
 use ztext::TextEnds;
@@ -23,9 +23,10 @@ pub fn examine<V: Spelled>(story: &Story, certificate: &Certificate<V>) -> Optio
     let tables = Tables::new(story, certificate.ranges(), &mut room);
     let mut ends = TextEnds::new(story.memory());
     let mut sets = V::room();
+    let mut others = V::room(); // for the places that an instruction leads to
     for index in 0..certificate.instruction_count() {
         let listed = certificate.instruction(index, &mut sets);
-        if let Err(rule) = judge(
+        if let Err(rule) = judge_in(
             story,
             &tables,
             certificate,
@@ -33,6 +34,7 @@ pub fn examine<V: Spelled>(story: &Story, certificate: &Certificate<V>) -> Optio
             index + 1,
             &mut ends,
             None,
+            &mut others,
         ) {
             return Some(Refusal::Instruction(listed.address, rule));
         }

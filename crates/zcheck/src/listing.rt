@@ -14,7 +14,7 @@ use crate::story_rules::broken_story_rule;
 use std::alloc::{AllocError, Global};
 use zcert::{Certificate, Spelled};
 use zlist::{Listing, Record};
-use zrule::{Blocks, judge};
+use zrule::{Blocks, judge_in};
 use zruns::{Room, Tables};
 use zstory::Story;
 use ztext::TextEnds;
@@ -78,9 +78,10 @@ fn each_judged<V: Spelled>(
     let tables = Tables::new(story, certificate.ranges(), &mut room);
     let mut ends = TextEnds::new(story.memory());
     let mut sets = V::room();
+    let mut others = V::room(); // for the places that an instruction leads to
     for index in 0..certificate.instruction_count() {
         let listed = certificate.instruction(index, &mut sets);
-        let instruction = match judge(
+        let instruction = match judge_in(
             story,
             &tables,
             certificate,
@@ -88,6 +89,7 @@ fn each_judged<V: Spelled>(
             index + 1,
             &mut ends,
             Some(blocks),
+            &mut others,
         ) {
             Ok(instruction) => instruction,
             Err(rule) => return Err(Refusal::Instruction(listed.address, rule)),

@@ -12,7 +12,7 @@ use std::alloc::Global;
 use std::marker::Model;
 use zcert::{Certificate, Spelled};
 use zdomain::Interval;
-use zrule::{Blocks, judge};
+use zrule::{Blocks, judge_in};
 use zruns::{Room, Tables};
 use zstory::Story;
 use ztext::TextEnds;
@@ -106,12 +106,13 @@ pub fn examine_unmarked<'c, V: Spelled>(
     let tables = Tables::new(story, certificate.ranges(), &mut room);
     let mut ends = TextEnds::new(story.memory());
     let mut sets = V::room();
+    let mut others = V::room(); // for the places that an instruction leads to
     for index in 0..certificate.instruction_count() {
         let listed = certificate.instruction(index, &mut sets);
         if listed.is_marked {
             continue;
         }
-        if let Err(rule) = judge(
+        if let Err(rule) = judge_in(
             story,
             &tables,
             certificate,
@@ -119,6 +120,7 @@ pub fn examine_unmarked<'c, V: Spelled>(
             index + 1,
             &mut ends,
             blocks,
+            &mut others,
         ) {
             return Some(Refusal::Instruction(listed.address, rule));
         }

@@ -24,7 +24,7 @@ use zcert::{Certificate, Instruction, Spelled, USUAL_FRAMES};
 use zcheck::examine_unmarked;
 use zdomain::{Domain, Values};
 use zlist::Listing;
-use zrule::judge;
+use zrule::judge_in;
 use zruns::{Room, Tables};
 use zstory::Story;
 use ztext::TextEnds;
@@ -354,15 +354,24 @@ fn marks_of(
     let tables = Tables::new(story, certificate.ranges(), &mut room);
     let mut ends = TextEnds::new(story.memory());
     let mut sets = Values::room();
+    let mut others = Values::room(); // for the places that an instruction leads to
     let mut marks = Vec::new(alloc);
     for index in 0..certificate.instruction_count() {
         let listed = certificate.instruction(index, &mut sets);
-        marks.push(is_broken(story, &tables, certificate, &listed, index + 1, &mut ends))?;
+        marks.push(is_broken(
+            story,
+            &tables,
+            certificate,
+            &listed,
+            index + 1,
+            &mut ends,
+            &mut others,
+        ))?;
     }
     Ok(marks)
 }
 
-/// Whether a listed instruction breaks a rule. `near` is as a judge has it.
+/// Whether a listed instruction breaks a rule. `near` and the room are as a judge has them.
 fn is_broken(
     story: &Story,
     tables: &Tables<'_>,
@@ -370,13 +379,14 @@ fn is_broken(
     listed: &Instruction<'_, Values>,
     near: usize,
     ends: &mut TextEnds<'_>,
+    others: &mut <Values as Spelled>::Room,
 ) -> bool
     requires ends { ends.old ≡ story.now.memory }
     requires tables { tables.now ≡ record { story = story.now; ranges = certificate.now.ranges } }
     ensures memory { ends.new ≡ ends.old }
     ensures mark { IsMarkOf story.now certificate.now (seen listed.now) result }
 {
-    match judge(story, tables, certificate, listed, near, ends, None) {
+    match judge_in(story, tables, certificate, listed, near, ends, None, others) {
         Ok(_) => false,
         Err(_rule) => true,
     }

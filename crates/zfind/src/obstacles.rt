@@ -18,7 +18,7 @@ use zcheck::examine;
 use zcode::decode;
 use zdomain::Values;
 use zlist::Listing;
-use zrule::{Rule, judge};
+use zrule::{Rule, judge_in};
 use zruns::{Room, Tables};
 use zstory::Story;
 use ztext::TextEnds;
@@ -230,9 +230,10 @@ fn certain_obstacle(
     let tables = Tables::new(story, certificate.ranges(), &mut room);
     let mut ends = TextEnds::new(story.memory());
     let mut sets = Values::room();
+    let mut others = Values::room(); // for the places that an instruction leads to
     for index in 0..certificate.instruction_count() {
         let listed = certificate.instruction(index, &mut sets);
-        let judged = judge(
+        let judged = judge_in(
             story,
             &tables,
             certificate,
@@ -240,6 +241,7 @@ fn certain_obstacle(
             index + 1,
             &mut ends,
             None,
+            &mut others,
         );
         if let Err(rule) = judged
             && is_certain(rule, is_waiting(code, walk, listed.address))

@@ -30,24 +30,30 @@ impl<'a, V: Domain> Globals<'a, V> {
     pub fn get(self, index: usize) -> Option<V>
         ensures { result ≡ slice_get (globals_seen self.entry) index }
     {
-        let own = *self.own.get(index)?;
-        Some(stated(self.facts, index, own))
+        let own = self.own.get(index)?;
+        Some(*stated(self.facts, index, own))
     }
 }
 
-/// The set that facts state for a global, by its index, and `before` where none of them is of it.
-fn stated<V: Domain>(facts: &[Fact<V>], index: usize, before: V) -> V
-    ensures { (globals : List V) → slice_get globals index ≡ Some before → slice_get (with_facts globals facts.now) index ≡ Some result }
+/// The set that facts state for a global, by its index, and `before` where none of them is of it. Sets are lent, since one may be a long
+/// list, and is asked of each fact.
+fn stated<'a, V: Domain>(facts: &'a [Fact<V>], index: usize, before: &'a V) -> &'a V
+    ensures { (globals : List V) → slice_get globals index ≡ Some before.now → slice_get (with_facts globals facts.now) index ≡ Some result.now }
 {
     match facts {
         [] => before,
-        [fact, rest @ ..] => {
-            stated(
-                rest,
-                index,
-                *at_or(&Some((fact.global, fact.values)), index, &before),
-            )
-        }
+        [fact, rest @ ..] => stated(rest, index, told_or(fact, index, before)),
+    }
+}
+
+/// The set of a fact, where it is of the global of this index, and else the other.
+fn told_or<'a, V: Domain>(fact: &'a Fact<V>, index: usize, other: &'a V) -> &'a V
+    ensures { (globals : List V) → slice_get globals index ≡ Some other.now → slice_get (put (Some (fact.now.global, fact.now.values)) globals) index ≡ Some result.now }
+{
+    if usize::from(fact.global) == index {
+        &fact.values
+    } else {
+        other
     }
 }
 

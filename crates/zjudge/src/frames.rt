@@ -57,23 +57,23 @@ pub(crate) fn are_frames_described<V: Spelled>(
         below = Some(Caller { index, frame });
         frame = next;
     }
-    is_newest_described(certificate, below, frame, place)
+    is_newest_described(certificate, below, frame, place, &mut room)
 }
 
-/// Whether the newest frame is described at a place.
+/// Whether the newest frame is described at a place. The sets of one instruction at a time may be made in the room.
 fn is_newest_described<V: Spelled>(
     certificate: &Certificate<V>,
     below: Option<Caller<'_>>,
     frame: SavedFrame<'_>,
     place: u32,
+    room: &mut V::Room,
 ) -> bool
     requires { IfSome below (λ c. c.index < length certificate.now.instructions) }
     ensures low { IsTrue result → IfSome below.entry (λ c. length (words_of c.frame.stack.now) ≤ 64) × (length (words_of frame.entry.stack.now) ≤ 64) }
     ensures value { IsTrue result ↔ AreDescribedFrom V.operations (claims_of V.operations certificate.now) (option_map (waiting_of certificate.now.instructions) below.entry) (taken_frame (seen_frame frame.entry)) [] place }
 {
-    let mut room = V::room();
-    match going_on_at(certificate, below, frame, place, &mut room) {
-        Some(index) => fits(&certificate.instruction(index, &mut room), frame),
+    match going_on_at(certificate, below, frame, place, room) {
+        Some(index) => fits(&certificate.instruction(index, room), frame),
         None => false,
     }
 }
@@ -93,8 +93,8 @@ fn going_on_at<V: Spelled>(
     ensures none { IfNone result ((e : Entry V) → GoesOnAt V.operations (claims_of V.operations certificate.now) (option_map (waiting_of certificate.now.instructions) below.entry) (taken_frame (seen_frame frame.entry)) place e → ⊥) }
 {
     let index = certificate.instruction_index(place)?;
-    let listed = certificate.instruction(index, room);
-    if is_called(certificate, below, frame.result, listed.routine) {
+    let routine = certificate.instruction(index, room).routine;
+    if is_called(certificate, below, frame.result, routine, room) {
         Some(index)
     } else {
         None
@@ -107,13 +107,14 @@ fn is_called<V: Spelled>(
     below: Option<Caller<'_>>,
     variable: u8,
     routine: u16,
+    room: &mut V::Room,
 ) -> bool
     requires { IfSome below (λ c. c.index < length certificate.now.instructions) }
     ensures low { IsTrue result → IfSome below.entry (λ c. length (words_of c.frame.stack.now) ≤ 64) }
     ensures value { IsTrue result ↔ IsCalled V.operations (claims_of V.operations certificate.now) (option_map (waiting_of certificate.now.instructions) below.entry) variable routine }
 {
     match below {
-        Some(caller) => routine > 0 && calls(certificate, caller, variable, routine),
+        Some(caller) => routine > 0 && calls(certificate, caller, variable, routine, room),
         None => routine == 0,
     }
 }
@@ -124,14 +125,14 @@ fn calls<V: Spelled>(
     caller: Caller<'_>,
     variable: u8,
     routine: u16,
+    room: &mut V::Room,
 ) -> bool
     requires there { caller.index < length certificate.now.instructions }
     requires some { 0 < routine }
     ensures low { IsTrue result → length (words_of caller.entry.frame.stack.now) ≤ 64 }
     ensures value { IsTrue result ↔ ((x : ℕ) → In V.operations ((claims_of V.operations certificate.now).result routine) x → FitsWith V.operations (claims_of V.operations certificate.now) variable x (waiting_of certificate.now.instructions caller.entry).entry.shape (waiting_of certificate.now.instructions caller.entry).frame) }
 {
-    let mut room = V::room();
-    let listed = certificate.instruction(caller.index, &mut room);
+    let listed = certificate.instruction(caller.index, room);
     let values = result_of(certificate, usize::from(routine) - 1);
     fits_with(certificate, &listed, caller.frame, variable, values)
 }

@@ -1,14 +1,13 @@
 -- An edge to a listed place.
-use Rattle.std.proofs.Common.{◌≡◌, ◌↔◌, ℕ, ◌<◌, Bool, ℤ, pos, ◌+ℤ◌, true, false, List, Some, None, length, arith, ap, inl, inr, refl, sym, ◌∙◌, subst}
+use Rattle.std.proofs.Common.{◌≡◌, ◌↔◌, ℕ, Bool, ℤ, pos, ◌+ℤ◌, true, false, List, Some, None, arith, ap, inl, inr, refl, sym, ◌∙◌, subst}
 use Rattle.std.proofs.lemmas.Option.{same_Some}
 use Rattle.std.specs.Prelude.{IfSome, IsTrue, option_map, slice_get}
 use Rattle.std.proofs.lemmas.Option.{slice_get_cases}
 use Rattle.zcert.specs.Certificate.{Certificate, Instruction}
-use Rattle.zcert.specs.Listed.{Finds, listed_at}
+use Rattle.zcert.specs.Listed.{Finds}
 use Rattle.zdomain.specs.Domain.{SetOperations}
 use Rattle.zflow.specs.Transfer.{Shape}
 use Rattle.zrule.specs.Claims.{Entry, Claims, claims_of, entry_of}
-use Rattle.zcert.specs.declared.parts.Fact.{Fact}
 use Rattle.zcert.specs.Facts.{facts_at}
 use Rattle.zrule.specs.Rules.{AreImplied, Covers, Leads}
 

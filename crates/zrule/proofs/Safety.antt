@@ -50,7 +50,7 @@ use Rattle.zflow.specs.declared.parts.Outcome.{Outcome}
 use Rattle.zflow.specs.declared.parts.Demands.{Demands}
 use Rattle.zpairs.specs.Pairs.{HaveOpenData}
 use Rattle.zplace.specs.Bytes.{IsOpen}
-use Rattle.zflow.specs.Transfer.{Shape, drawn_set, pops, variable_set, small, is_local, local_kept, operand_kept, operand_global, both_kept, globals_with, globals_named, globals_after, untold, counted_set, demands_of, goes_on, gives_in, assigns_in, asks, counts_in, follows_in, returns_in, enters_in, argument_sets, jumps, outcome_of, leading, named_with, with_result, with_assigned, narrowed, read_set, mid_shape, changed_by, after}
+use Rattle.zflow.specs.Transfer.{Shape, drawn_set, pops, variable_set, small, is_local, local_kept, operand_kept, operand_global, both_kept, globals_named, globals_after, untold, counted_set, demands_of, goes_on, gives_in, assigns_in, asks, counts_in, follows_in, returns_in, enters_in, argument_sets, jumps, outcome_of, leading, named_with, with_assigned, narrowed, read_set, mid_shape, changed_by, after}
 use Rattle.zrule.specs.declared.rule.Rule.TheVariants as rules
 use Rattle.zrule.specs.Claims.{Claims, frozen_in, told_of, globals_at}
 use Rattle.zrule.specs.Rules.{LieIn, Begins, Enters, TakesBack, HasLineObject, IsThere, IsKnown, IsNamed, IsVariable, HasTop, SupportsWhere, Takes, TakesInPlace, GoesOn, Returns, OnEdge, Whatever, IsLow, demands_at, AreObjects, NamesObject, Finds, FindsProperty, FillsOpen, AreRead, AreWritten, KnowsAnswers}

@@ -1,12 +1,11 @@
 -- What is known of globals: how it stays so when one is written, and when a branch says something of it.
 use Rattle.std.proofs.Common.{◌≡◌, ◌⊎◌, inl, inr, ℕ, zero, suc, ◌+◌, ◌-◌, ◌*◌, ◌<◌, ◌≤◌, Bool, true, false, List, [], ◌∷◌, length, Option, Some, None, refl, sym, ap, subst, ◌∙◌, arith, nat_lt, slice_set, if◌then◌else◌}
-use Rattle.std.specs.Prelude.{IfSome, MatchOption, slice_get, slice_index, ◌==◌}
+use Rattle.std.specs.Prelude.{IfSome, MatchOption, slice_get, ◌==◌}
 use Rattle.std.specs.Bool.{MatchBool}
 use Rattle.std.specs.List.{AllByRecursion}
 use Rattle.std.proofs.lemmas.Bool.{cases_lt, ltb-true, ltb-false, eqb-true}
 use Rattle.std.proofs.lemmas.List.{length-set}
 use Rattle.std.proofs.lemmas.Option.{same_Some}
-use Rattle.zstory.specs.Bytes.{word_at}
 use Rattle.zstory.specs.LoadedStory.{LoadedStory, globals}
 use Rattle.zdomain.specs.Domain.{SetOperations, In, Within}
 use Rattle.zcert.specs.declared.parts.Fact.{Fact}
@@ -14,7 +13,7 @@ use Rattle.zfault.specs.declared.pause.Need.{Need}
 use Rattle.zfault.specs.declared.pause.Need.TheVariants as needs
 use Rattle.zstate.specs.declared.mode.RandomMode.{RandomMode}
 use Rattle.zstate.specs.State.{State, with_stack, with_locals, with_memory, write_word, global, put, put_named, put_in_place}
-use Rattle.zstate.specs.Step.{assigned, stored, drawn, used}
+use Rattle.zstate.specs.Step.{drawn, used}
 use Rattle.zflow.specs.declared.parts.Kept.{Kept}
 use Rattle.zflow.specs.declared.parts.Outcome.{Outcome}
 use Rattle.zflow.specs.Transfer.{Shape, global_kept, globals_with, globals_named, globals_after, with_facts}

@@ -106,8 +106,16 @@ impl<V: Spelled> Blocks<V> {
         ensures told { IfOk result (λ blocks. AreBlocks V.operations (claims_of V.operations certificate.now) story.now blocks) }
         ensures all { IfOk result (λ blocks. length blocks.0 ≡ 1024 × length blocks.1 ≡ 16) }
     {
-        let blocks = in_turn(alloc, story, certificate, BLOCK_LENGTH, BLOCKS)?;
-        let wide = in_turn(alloc, story, certificate, WIDE_LENGTH, WIDE_BLOCKS)?;
+        let mut room = V::room();
+        let blocks = in_turn(alloc, story, certificate, BLOCK_LENGTH, BLOCKS, &mut room)?;
+        let wide = in_turn(
+            alloc,
+            story,
+            certificate,
+            WIDE_LENGTH,
+            WIDE_BLOCKS,
+            &mut room,
+        )?;
         Ok(Blocks { blocks, wide })
     }
 
@@ -132,13 +140,15 @@ impl<V: Spelled> Blocks<V> {
     }
 }
 
-/// What is known of so many blocks of `count` packed addresses each, from address 0 on.
+/// What is known of so many blocks of `count` packed addresses each, from address 0 on. The sets of one instruction at a time may be
+/// made in the room.
 fn in_turn<V: Spelled>(
     alloc: Global,
     story: &Story,
     certificate: &Certificate<V>,
     count: u16,
     blocks: u16,
+    room: &mut V::Room,
 ) -> Result<Vec<Block<V>>, AllocError>
     requires few { count * blocks ≤ 65536 }
     requires some { 1 ≤ count }
@@ -147,7 +157,7 @@ fn in_turn<V: Spelled>(
 {
     let mut made = Vec::with_capacity(alloc, usize::from(blocks))?;
     for number in 0..blocks {
-        made.push(block_from(story, certificate, count, count * number))?;
+        made.push(block_from(story, certificate, count, count * number, room))?;
     }
     Ok(made)
 }
@@ -158,6 +168,7 @@ fn block_from<V: Spelled>(
     certificate: &Certificate<V>,
     count: u16,
     base: u16,
+    room: &mut V::Room,
 ) -> Block<V>
     requires few { base + count ≤ 65536 }
     requires some { 1 ≤ count }
@@ -166,17 +177,18 @@ fn block_from<V: Spelled>(
     if certificate.routine_index(2 * u32::from(base)).is_none() {
         return nothing_known();
     }
-    let first = tried_set(story, certificate, count, base, 0);
-    let second = tried_set(story, certificate, count, base, 1);
-    let third = tried_set(story, certificate, count, base, 2);
+    let first = tried_set(story, certificate, count, base, 0, room);
+    let second = tried_set(story, certificate, count, base, 1, room);
+    let third = tried_set(story, certificate, count, base, 2, room);
+    let one = Arguments::One(first);
     let two = Arguments::Two(first, second);
     let three = Arguments::Three(first, second, third);
     Block {
         gives: given_by_each(certificate, count, base),
-        zero: if_each_begins(story, certificate, count, base, Arguments::Zero),
-        one: if_each_begins(story, certificate, count, base, Arguments::One(first)),
-        two: if_each_begins(story, certificate, count, base, two),
-        three: if_each_begins(story, certificate, count, base, three),
+        zero: if_each_begins(story, certificate, count, base, Arguments::Zero, room),
+        one: if_each_begins(story, certificate, count, base, one, room),
+        two: if_each_begins(story, certificate, count, base, two, room),
+        three: if_each_begins(story, certificate, count, base, three, room),
     }
 }
 
@@ -228,12 +240,13 @@ fn if_each_begins<V: Spelled>(
     count: u16,
     base: u16,
     arguments: Arguments<V>,
+    room: &mut V::Room,
 ) -> Option<Arguments<V>>
     requires { base + count ≤ 65536 }
     ensures { IfSome result (EachBegins V.operations (claims_of V.operations certificate.now) story.now count base) }
 {
     for offset in 0..count {
-        if !begins(story, certificate, arguments, base + offset) {
+        if !begins(story, certificate, arguments, base + offset, room) {
             return None;
         }
     }

@@ -17,14 +17,20 @@ use zcert::{Certificate, Instruction, Spelled};
 use zdomain::Domain;
 use zstory::Story;
 
-/// Whether the routine at each packed address of the set, other than 0, is as it is wanted to be.
-pub(crate) fn callees_are<V: Spelled>(site: Site<'_, V>, set: V, wanted: Wanted<V>) -> bool
+/// Whether the routine at each packed address of the set, other than 0, is as it is wanted to be. The sets that each begins with may
+/// be made in the room.
+pub(crate) fn callees_are<V: Spelled>(
+    site: Site<'_, V>,
+    set: V,
+    wanted: Wanted<V>,
+    room: &mut V::Room,
+) -> bool
     requires { IfSome site.blocks (λ b. AreBlocks V.operations (claims_of V.operations site.certificate.now) site.story.now b.now) }
     ensures { IsTrue result ↔ EachCallee V.operations (claims_of V.operations site.entry.certificate.now) set (IsAsWanted V.operations (claims_of V.operations site.entry.certificate.now) site.entry.story.now wanted) }
 {
     let mut callee = next_above(set, 0);
     while let Some(word) = callee {
-        let Some(last) = wanted_to(site, word, wanted) else {
+        let Some(last) = wanted_to(site, word, wanted, room) else {
             return false;
         };
         callee = next_above(set, last);
@@ -41,7 +47,12 @@ pub(crate) fn next_above<V: Spelled>(set: V, word: u16) -> Option<u16>
 
 /// The last packed address up to which the routine at each from one on is known to be as it is wanted to be: that of the block that
 /// begins there, the wide one first, where that is known of the whole block, and else the address itself. `None` where that isn't so.
-fn wanted_to<V: Spelled>(site: Site<'_, V>, packed: u16, wanted: Wanted<V>) -> Option<u16>
+fn wanted_to<V: Spelled>(
+    site: Site<'_, V>,
+    packed: u16,
+    wanted: Wanted<V>,
+    room: &mut V::Room,
+) -> Option<u16>
     requires { IfSome site.blocks (λ b. AreBlocks V.operations (claims_of V.operations site.certificate.now) site.story.now b.now) }
     ensures kept { IfSome result (λ last. (packed ≤ last) × ((x : ℕ) → packed ≤ x → x ≤ last → IsAsWanted V.operations (claims_of V.operations site.entry.certificate.now) site.entry.story.now wanted (unpacked x))) }
     ensures broken { IfNone result (IsAsWanted V.operations (claims_of V.operations site.entry.certificate.now) site.entry.story.now wanted (unpacked packed) → ⊥) }
@@ -52,7 +63,7 @@ fn wanted_to<V: Spelled>(site: Site<'_, V>, packed: u16, wanted: Wanted<V>) -> O
     if is_block_wanted(site, packed, wanted) {
         return Some(packed + 63);
     }
-    if callee_is(site, packed, wanted) {
+    if callee_is(site, packed, wanted, room) {
         return Some(packed);
     }
     None
@@ -83,11 +94,16 @@ fn is_block_wanted<V: Spelled>(site: Site<'_, V>, packed: u16, wanted: Wanted<V>
 }
 
 /// Whether the routine at a packed address is as it is wanted to be.
-fn callee_is<V: Spelled>(site: Site<'_, V>, packed: u16, wanted: Wanted<V>) -> bool
+fn callee_is<V: Spelled>(
+    site: Site<'_, V>,
+    packed: u16,
+    wanted: Wanted<V>,
+    room: &mut V::Room,
+) -> bool
     ensures { IsTrue result ↔ IsAsWanted V.operations (claims_of V.operations site.entry.certificate.now) site.entry.story.now wanted (unpacked packed) }
 {
     match wanted {
-        Wanted::Begin(arguments) => begins(site.story, site.certificate, arguments, packed),
+        Wanted::Begin(arguments) => begins(site.story, site.certificate, arguments, packed, room),
         Wanted::Give(set) => { result_at(site.certificate, 2 * u32::from(packed)).is_within(set) }
     }
 }
@@ -112,21 +128,21 @@ pub(crate) fn result_of<V: Spelled>(certificate: &Certificate<V>, index: usize) 
     }
 }
 
-/// Whether a routine begins at a packed address, with these arguments.
+/// Whether a routine begins at a packed address, with these arguments. The sets that it begins with may be made in the room.
 pub(crate) fn begins<V: Spelled>(
     story: &Story,
     certificate: &Certificate<V>,
     arguments: Arguments<V>,
     packed: u16,
+    room: &mut V::Room,
 ) -> bool
     ensures { IsTrue result ↔ Begins V.operations (claims_of V.operations certificate.now) story.now (sets_of arguments) (unpacked packed) }
 {
-    let mut room = V::room();
     let place = 2 * u32::from(packed);
-    begins_at(story, certificate, arguments, place, &mut room)
+    begins_at(story, certificate, arguments, place, room)
 }
 
-/// Whether a routine begins at a place, with these arguments. The sets that it begins with may be made in the room.
+/// Whether a routine begins at a place, with these arguments.
 fn begins_at<V: Spelled>(
     story: &Story,
     certificate: &Certificate<V>,

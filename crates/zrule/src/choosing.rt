@@ -7,20 +7,22 @@ use zcert::{Certificate, Spelled};
 use zdomain::Domain;
 use zstory::Story;
 
-/// A set in which an argument may lie for each routine of a block: what their locals of an index have in common.
+/// A set in which an argument may lie for each routine of a block: what their locals of an index have in common. The sets of one
+/// instruction at a time may be made in the room.
 pub(crate) fn tried_set<V: Spelled>(
     story: &Story,
     certificate: &Certificate<V>,
     count: u16,
     base: u16,
     index: usize,
+    room: &mut V::Room,
 ) -> V
     requires { base + count ≤ 65536 }
 {
     let mut set = V::any();
     for offset in 0..count {
         let place = 2 * u32::from(base + offset);
-        let Some(common) = common_with(story, certificate, place, index, set) else {
+        let Some(common) = common_with(story, certificate, place, index, set, room) else {
             return set;
         };
         set = common;
@@ -35,13 +37,13 @@ fn common_with<V: Spelled>(
     place: u32,
     index: usize,
     set: V,
+    room: &mut V::Room,
 ) -> Option<V>
     requires { place ≤ 131070 }
 {
     certificate.routine_index(place)?;
     let words = u32::from(byte_at(story.memory(), place as usize));
-    let mut room = V::room();
-    let first = certificate.instruction_at(place + 1 + 2 * words, &mut room)?;
+    let first = certificate.instruction_at(place + 1 + 2 * words, room)?;
     match first.locals.get(index) {
         Some(local) => set.meet(*local),
         None => Some(set),

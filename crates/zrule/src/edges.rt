@@ -44,44 +44,50 @@ fn most_before<V: Spelled>(lead: Lead<V>, target: u8) -> usize
     }
 }
 
-/// Whether an edge leads on, if it can be taken.
-pub(crate) fn goes_on<V: Spelled>(site: Site<'_, V>, edge: &Edge<'_, V>) -> bool
+/// Whether an edge leads on, if it can be taken. The sets of the place that it leads to may be made in the room.
+pub(crate) fn goes_on<V: Spelled>(site: Site<'_, V>, edge: &Edge<'_, V>, room: &mut V::Room) -> bool
     requires near { site.listed.now.address + site.instruction.now.size ≤ 131072 }
     requires told { IfSome site.blocks (λ b. AreBlocks V.operations (claims_of V.operations site.certificate.now) site.story.now b.now) }
     ensures { IsTrue result ↔ IfSome edge.now.after (λ f. GoesOn V.operations (claims_of V.operations site.entry.certificate.now) site.entry.listed.now.routine (target site.entry.instruction.now) (globals_after (globals_at (claims_of V.operations site.entry.certificate.now) site.entry.listed.now.address) (target site.entry.instruction.now) edge.now.outcome) f (site.entry.listed.now.address + site.entry.instruction.now.size) edge.now.lead) }
 {
     match (&edge.after, edge.lead) {
         (Some(after), Lead::Ahead(distance)) => {
-            leads_ahead(site, after, &edge.outcome, distance)
+            leads_ahead(site, after, &edge.outcome, distance, room)
         }
-        (Some(after), Lead::Entering(set)) => callees_lead(site, set, after),
+        (Some(after), Lead::Entering(set)) => callees_lead(site, set, after, room),
         _ => true,
     }
 }
 
-/// Whether each routine that an edge calls begins as is said, if that can be taken.
-pub(crate) fn enters<V: Spelled>(site: Site<'_, V>, edge: &Edge<'_, V>) -> bool
+/// Whether each routine that an edge calls begins as is said, if that can be taken. The sets that one begins with may be made in the
+/// room.
+pub(crate) fn enters<V: Spelled>(site: Site<'_, V>, edge: &Edge<'_, V>, room: &mut V::Room) -> bool
     requires near { site.listed.now.address + site.instruction.now.size ≤ 131072 }
     requires told { IfSome site.blocks (λ b. AreBlocks V.operations (claims_of V.operations site.certificate.now) site.story.now b.now) }
     ensures { IsTrue result ↔ IfSome edge.now.after (λ f. Enters V.operations (claims_of V.operations site.entry.certificate.now) site.entry.story.now (argument_sets V.operations (globals_at (claims_of V.operations site.entry.certificate.now) site.entry.listed.now.address) site.entry.instruction.now (entry_of (seen site.entry.listed.now)).shape) edge.now.lead) }
 {
     match (&edge.after, edge.lead) {
-        (Some(_), Lead::Entering(set)) => callees_begin(site, set),
+        (Some(_), Lead::Entering(set)) => callees_begin(site, set, room),
         _ => true,
     }
 }
 
 /// Whether each routine of a set begins with the arguments of the instruction.
-fn callees_begin<V: Spelled>(site: Site<'_, V>, set: V) -> bool
+fn callees_begin<V: Spelled>(site: Site<'_, V>, set: V, room: &mut V::Room) -> bool
     requires { IfSome site.blocks (λ b. AreBlocks V.operations (claims_of V.operations site.certificate.now) site.story.now b.now) }
     ensures { IsTrue result ↔ EachCallee V.operations (claims_of V.operations site.entry.certificate.now) set (Begins V.operations (claims_of V.operations site.entry.certificate.now) site.entry.story.now (argument_sets V.operations (globals_at (claims_of V.operations site.entry.certificate.now) site.entry.listed.now.address) site.entry.instruction.now (entry_of (seen site.entry.listed.now)).shape)) }
 {
-    callees_are(site, set, Wanted::Begin(arguments_of(site)))
+    callees_are(site, set, Wanted::Begin(arguments_of(site)), room)
 }
 
 /// Whether the place behind the instruction is led to with whatever a routine of a set gives. What comes back decides only where that
 /// place states a set for the variable that takes it, and then by this alone: all else is compared once.
-fn callees_lead<V: Spelled>(site: Site<'_, V>, set: V, after: &Known<'_, V>) -> bool
+fn callees_lead<V: Spelled>(
+    site: Site<'_, V>,
+    set: V,
+    after: &Known<'_, V>,
+    room: &mut V::Room,
+) -> bool
     requires near { site.listed.now.address + site.instruction.now.size ≤ 131072 }
     requires told { IfSome site.blocks (λ b. AreBlocks V.operations (claims_of V.operations site.certificate.now) site.story.now b.now) }
     ensures { IsTrue result ↔ EachCallee V.operations (claims_of V.operations site.entry.certificate.now) set (λ p. Leads V.operations (claims_of V.operations site.entry.certificate.now) site.entry.listed.now.routine site.entry.certificate.now.globals (with_result (Some (result_at V.operations (claims_of V.operations site.entry.certificate.now) p)) (target site.entry.instruction.now) after.now) (site.entry.listed.now.address + site.entry.instruction.now.size)) }
@@ -89,34 +95,39 @@ fn callees_lead<V: Spelled>(site: Site<'_, V>, set: V, after: &Known<'_, V>) -> 
     if next_above(set, 0).is_none() {
         return true;
     }
-    match stated_behind(site) {
-        Some(stated) => leads_stated(site, set, after, stated),
-        None => leads_given(site, after, V::any()),
+    match stated_behind(site, room) {
+        Some(stated) => leads_stated(site, set, after, stated, room),
+        None => leads_given(site, after, V::any(), room),
     }
 }
 
 /// Whether it is where that place states this set, and a routine is called.
-fn leads_stated<V: Spelled>(site: Site<'_, V>, set: V, after: &Known<'_, V>, stated: V) -> bool
+fn leads_stated<V: Spelled>(
+    site: Site<'_, V>,
+    set: V,
+    after: &Known<'_, V>,
+    stated: V,
+    room: &mut V::Room,
+) -> bool
     requires near { site.listed.now.address + site.instruction.now.size ≤ 131072 }
     requires told { IfSome site.blocks (λ b. AreBlocks V.operations (claims_of V.operations site.certificate.now) site.story.now b.now) }
     requires stated { stated_for (target site.instruction.now) ((claims_of V.operations site.certificate.now).entry (site.listed.now.address + site.instruction.now.size)) ≡ Some stated }
     requires called { (w : ℕ) × In V.operations set w × (0 < w) }
     ensures { IsTrue result ↔ EachCallee V.operations (claims_of V.operations site.entry.certificate.now) set (λ p. Leads V.operations (claims_of V.operations site.entry.certificate.now) site.entry.listed.now.routine site.entry.certificate.now.globals (with_result (Some (result_at V.operations (claims_of V.operations site.entry.certificate.now) p)) (target site.entry.instruction.now) after.now) (site.entry.listed.now.address + site.entry.instruction.now.size)) }
 {
-    if !leads_given(site, after, stated) {
+    if !leads_given(site, after, stated, room) {
         return false;
     }
-    callees_are(site, set, Wanted::Give(stated))
+    callees_are(site, set, Wanted::Give(stated), room)
 }
 
 /// The set that the place behind the instruction states for the variable that takes its result, where it states one.
-fn stated_behind<V: Spelled>(site: Site<'_, V>) -> Option<V>
+fn stated_behind<V: Spelled>(site: Site<'_, V>, room: &mut V::Room) -> Option<V>
     requires { site.listed.now.address + site.instruction.now.size ≤ 131072 }
     ensures { result ≡ stated_for (target site.entry.instruction.now) ((claims_of V.operations site.entry.certificate.now).entry (site.entry.listed.now.address + site.entry.instruction.now.size)) }
 {
-    let mut room = V::room();
     let index = index_near(site.certificate, site.near, site.next())?;
-    let next = site.certificate.instruction(index, &mut room);
+    let next = site.certificate.instruction(index, room);
     match site.target() {
         0 => next.slots.last().copied(),
         variable if variable < 16 => next.locals.get(usize::from(variable) - 1).copied(),
@@ -130,22 +141,29 @@ fn leads_ahead<V: Spelled>(
     after: &Known<'_, V>,
     outcome: &Outcome<V>,
     distance: i32,
+    room: &mut V::Room,
 ) -> bool
     requires { site.listed.now.address + site.instruction.now.size ≤ 131072 }
     ensures { IsTrue result ↔ GoesOn V.operations (claims_of V.operations site.entry.certificate.now) site.entry.listed.now.routine (target site.entry.instruction.now) (globals_after (globals_at (claims_of V.operations site.entry.certificate.now) site.entry.listed.now.address) (target site.entry.instruction.now) outcome.now) after.now (site.entry.listed.now.address + site.entry.instruction.now.size) (Ahead distance) }
 {
     match u32::try_from(i64::from(site.next()) + i64::from(distance)) {
-        Ok(to) => leads(site, after, outcome, to),
+        Ok(to) => leads(site, after, outcome, to, room),
         Err(_) => false,
     }
 }
 
 /// Whether a place is listed in the routine, at equal height, with sets that contain what is known, and facts that do.
-fn leads<V: Spelled>(site: Site<'_, V>, after: &Known<'_, V>, outcome: &Outcome<V>, to: u32) -> bool
+fn leads<V: Spelled>(
+    site: Site<'_, V>,
+    after: &Known<'_, V>,
+    outcome: &Outcome<V>,
+    to: u32,
+    room: &mut V::Room,
+) -> bool
     ensures { IsTrue result ↔ Leads V.operations (claims_of V.operations site.entry.certificate.now) site.entry.listed.now.routine (globals_after (globals_at (claims_of V.operations site.entry.certificate.now) site.entry.listed.now.address) (target site.entry.instruction.now) outcome.now) after.now to }
 {
     match index_near(site.certificate, site.near, to) {
-        Some(index) => { leads_to(site, after, index) && keeps_facts(site, outcome, to) }
+        Some(index) => { leads_to(site, after, index, room) && keeps_facts(site, outcome, to) }
         None => false,
     }
 }
@@ -171,35 +189,50 @@ fn are_kept<V: Spelled>(site: Site<'_, V>, outcome: &Outcome<V>, facts: &[Fact<V
 }
 
 /// Whether what is listed at an index is in the routine, at equal height, with sets that contain what is known.
-fn leads_to<V: Spelled>(site: Site<'_, V>, after: &Known<'_, V>, index: usize) -> bool
+fn leads_to<V: Spelled>(
+    site: Site<'_, V>,
+    after: &Known<'_, V>,
+    index: usize,
+    room: &mut V::Room,
+) -> bool
     requires { index < length site.certificate.now.instructions }
     ensures { IfSome (slice_get site.entry.certificate.now.instructions index) (λ i. IsTrue result ↔ ((i.routine ≡ site.entry.listed.now.routine) × Covers V.operations after.now (entry_of i).shape)) }
 {
-    let mut room = V::room();
-    let next = site.certificate.instruction(index, &mut room);
+    let next = site.certificate.instruction(index, room);
     next.routine == site.listed.routine && covers(after, &next)
 }
 
 /// Whether the place behind the instruction is, once its result variable is given a value of the set.
-fn leads_given<V: Spelled>(site: Site<'_, V>, after: &Known<'_, V>, set: V) -> bool
+fn leads_given<V: Spelled>(
+    site: Site<'_, V>,
+    after: &Known<'_, V>,
+    set: V,
+    room: &mut V::Room,
+) -> bool
     requires { site.listed.now.address + site.instruction.now.size ≤ 131072 }
     ensures { IsTrue result ↔ Leads V.operations (claims_of V.operations site.entry.certificate.now) site.entry.listed.now.routine site.entry.certificate.now.globals (with_result (Some set) (target site.entry.instruction.now) after.now) (site.entry.listed.now.address + site.entry.instruction.now.size) }
 {
     match index_near(site.certificate, site.near, site.next()) {
         Some(index) => {
-            leads_to_given(site, after, set, index) && hold_anyway(site.certificate, site.next())
+            leads_to_given(site, after, set, index, room)
+                && hold_anyway(site.certificate, site.next())
         }
         None => false,
     }
 }
 
 /// Whether what is listed at an index is, once the result variable is given a value of the set.
-fn leads_to_given<V: Spelled>(site: Site<'_, V>, after: &Known<'_, V>, set: V, index: usize) -> bool
+fn leads_to_given<V: Spelled>(
+    site: Site<'_, V>,
+    after: &Known<'_, V>,
+    set: V,
+    index: usize,
+    room: &mut V::Room,
+) -> bool
     requires { index < length site.certificate.now.instructions }
     ensures { IfSome (slice_get site.entry.certificate.now.instructions index) (λ i. IsTrue result ↔ ((i.routine ≡ site.entry.listed.now.routine) × Covers V.operations (with_result (Some set) (target site.entry.instruction.now) after.now) (entry_of i).shape)) }
 {
-    let mut room = V::room();
-    let next = site.certificate.instruction(index, &mut room);
+    let next = site.certificate.instruction(index, room);
     next.routine == site.listed.routine && covers_given(after, set, site.target(), &next)
 }
 
@@ -254,7 +287,7 @@ fn may_return<V: Spelled>(certificate: &Certificate<V>, routine: u16, set: V) ->
 }
 
 /// Whether what an edge stores to globals lies in their sets, if it can be taken, and what the routines give that it calls.
-pub(crate) fn stores<V: Spelled>(site: Site<'_, V>, edge: &Edge<'_, V>) -> bool
+pub(crate) fn stores<V: Spelled>(site: Site<'_, V>, edge: &Edge<'_, V>, room: &mut V::Room) -> bool
     requires near { site.listed.now.address + site.instruction.now.size ≤ 131072 }
     requires told { IfSome site.blocks (λ b. AreBlocks V.operations (claims_of V.operations site.certificate.now) site.story.now b.now) }
     ensures { IsTrue result ↔ IfSome edge.now.after (λ f. Takes V.operations (claims_of V.operations site.entry.certificate.now) edge.now.outcome.gives (target site.entry.instruction.now) × TakesInPlace V.operations (claims_of V.operations site.entry.certificate.now) edge.now.outcome.assigns × TakesBack V.operations (claims_of V.operations site.entry.certificate.now) (target site.entry.instruction.now) edge.now.lead) }
@@ -264,27 +297,27 @@ pub(crate) fn stores<V: Spelled>(site: Site<'_, V>, edge: &Edge<'_, V>) -> bool
     }
     takes(site.certificate, edge.outcome.gives, site.target())
         && takes_in_place(site.certificate, edge.outcome.assigns)
-        && takes_back(site, edge.lead)
+        && takes_back(site, edge.lead, room)
 }
 
 /// Whether the result variable takes what comes back.
-fn takes_back<V: Spelled>(site: Site<'_, V>, lead: Lead<V>) -> bool
+fn takes_back<V: Spelled>(site: Site<'_, V>, lead: Lead<V>, room: &mut V::Room) -> bool
     requires { IfSome site.blocks (λ b. AreBlocks V.operations (claims_of V.operations site.certificate.now) site.story.now b.now) }
     ensures { IsTrue result ↔ TakesBack V.operations (claims_of V.operations site.entry.certificate.now) (target site.entry.instruction.now) lead }
 {
     match lead {
-        Lead::Entering(set) => callees_take(site, set),
+        Lead::Entering(set) => callees_take(site, set, room),
         Lead::Ahead(_) | Lead::Returning(_) => true,
     }
 }
 
 /// Whether it takes what each routine of a set gives.
-fn callees_take<V: Spelled>(site: Site<'_, V>, set: V) -> bool
+fn callees_take<V: Spelled>(site: Site<'_, V>, set: V, room: &mut V::Room) -> bool
     requires { IfSome site.blocks (λ b. AreBlocks V.operations (claims_of V.operations site.certificate.now) site.story.now b.now) }
     ensures { IsTrue result ↔ TakesBack V.operations (claims_of V.operations site.entry.certificate.now) (target site.entry.instruction.now) (Entering set) }
 {
     match global_set(site.certificate, site.target()) {
-        Some(stated) => callees_are(site, set, Wanted::Give(stated)),
+        Some(stated) => callees_are(site, set, Wanted::Give(stated), room),
         None => true,
     }
 }

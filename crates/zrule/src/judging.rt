@@ -107,34 +107,44 @@ fn reads<V: Spelled>(story: &Story, demands: &Demands<V>) -> bool
     reads_length(story, demands) && reads_elements(story, demands)
 }
 
-/// Whether an edge keeps a rule.
-fn edge_keeps<V: Spelled>(site: Site<'_, V>, edge: &Edge<'_, V>, rule: Rule) -> bool
+/// Whether an edge keeps a rule. The sets of the places that it leads to may be made in the room, those of one at a time.
+fn edge_keeps<V: Spelled>(
+    site: Site<'_, V>,
+    edge: &Edge<'_, V>,
+    rule: Rule,
+    room: &mut V::Room,
+) -> bool
     requires near { site.listed.now.address + site.instruction.now.size ≤ 131072 }
     requires told { IfSome site.blocks (λ b. AreBlocks V.operations (claims_of V.operations site.certificate.now) site.story.now b.now) }
     ensures { IsTrue result ↔ EdgeKeeps V.operations (claims_of V.operations site.entry.certificate.now) site.entry.story.now (globals_at (claims_of V.operations site.entry.certificate.now) site.entry.listed.now.address) (argument_sets V.operations (globals_at (claims_of V.operations site.entry.certificate.now) site.entry.listed.now.address) site.entry.instruction.now (entry_of (seen site.entry.listed.now)).shape) site.entry.listed.now.routine (site.entry.listed.now.address + site.entry.instruction.now.size) (target site.entry.instruction.now) rule edge.now }
 {
     match rule {
-        Rule::Successor => !is_low(edge, site.target()) || goes_on(site, edge),
-        Rule::Called => enters(site, edge),
+        Rule::Successor => !is_low(edge, site.target()) || goes_on(site, edge, room),
+        Rule::Called => enters(site, edge, room),
         Rule::Returned => returns(site.certificate, site.listed.routine, edge),
-        Rule::Stored => stores(site, edge),
+        Rule::Stored => stores(site, edge, room),
         Rule::High => is_low(edge, site.target()),
         _ => true,
     }
 }
 
 /// Whether both edges do, where they can be taken.
-fn edges_keep<V: Spelled>(site: Site<'_, V>, flow: &Flow<'_, V>, rule: Rule) -> bool
+fn edges_keep<V: Spelled>(
+    site: Site<'_, V>,
+    flow: &Flow<'_, V>,
+    rule: Rule,
+    room: &mut V::Room,
+) -> bool
     requires near { site.listed.now.address + site.instruction.now.size ≤ 131072 }
     requires told { IfSome site.blocks (λ b. AreBlocks V.operations (claims_of V.operations site.certificate.now) site.story.now b.now) }
     ensures { IsTrue result ↔ EdgesKeep V.operations (claims_of V.operations site.entry.certificate.now) site.entry.story.now (globals_at (claims_of V.operations site.entry.certificate.now) site.entry.listed.now.address) (argument_sets V.operations (globals_at (claims_of V.operations site.entry.certificate.now) site.entry.listed.now.address) site.entry.instruction.now (entry_of (seen site.entry.listed.now)).shape) site.entry.listed.now.routine (site.entry.listed.now.address + site.entry.instruction.now.size) (target site.entry.instruction.now) rule flow.now }
 {
     let held = match &flow.held {
-        Some(edge) => edge_keeps(site, edge, rule),
+        Some(edge) => edge_keeps(site, edge, rule, room),
         None => true,
     };
     held && match &flow.failed {
-        Some(edge) => edge_keeps(site, edge, rule),
+        Some(edge) => edge_keeps(site, edge, rule, room),
         None => true,
     }
 }
@@ -166,7 +176,12 @@ fn gives_known<V: Spelled>(site: Site<'_, V>, flow: &Flow<'_, V>) -> bool
 
 /// Whether each edge of an instruction that is there leads on, as far as that is asked: not where it isn't known what the instruction
 /// gives, or what it calls doesn't begin as is said.
-fn has_successors<V: Spelled>(site: Site<'_, V>, flow: &Flow<'_, V>, known: bool) -> bool
+fn has_successors<V: Spelled>(
+    site: Site<'_, V>,
+    flow: &Flow<'_, V>,
+    known: bool,
+    room: &mut V::Room,
+) -> bool
     requires there { IsThere site.story.now site.listed.now.address site.instruction.now }
     requires near { site.listed.now.address + site.instruction.now.size ≤ 131072 }
     requires tables { site.tables.now ≡ record { story = site.story.now; ranges = site.certificate.now.ranges } }
@@ -178,15 +193,21 @@ fn has_successors<V: Spelled>(site: Site<'_, V>, flow: &Flow<'_, V>, known: bool
     if !known {
         return true;
     }
-    if !edges_keep(site, flow, Rule::Called) {
+    if !edges_keep(site, flow, Rule::Called, room) {
         return true;
     }
-    flow.demands.certain && edges_keep(site, flow, Rule::Successor)
+    flow.demands.certain && edges_keep(site, flow, Rule::Successor, room)
 }
 
 /// Whether an instruction that is there does what a rule asks of it. `known` says whether it is known what it gives, so that of loads and
 /// properties nothing is asked twice.
-fn asks<V: Spelled>(site: Site<'_, V>, flow: &Flow<'_, V>, known: bool, rule: Rule) -> bool
+fn asks<V: Spelled>(
+    site: Site<'_, V>,
+    flow: &Flow<'_, V>,
+    known: bool,
+    rule: Rule,
+    room: &mut V::Room,
+) -> bool
     requires there { IsThere site.story.now site.listed.now.address site.instruction.now }
     requires near { site.listed.now.address + site.instruction.now.size ≤ 131072 }
     requires tables { site.tables.now ≡ record { story = site.story.now; ranges = site.certificate.now.ranges } }
@@ -215,7 +236,7 @@ fn asks<V: Spelled>(site: Site<'_, V>, flow: &Flow<'_, V>, known: bool, rule: Ru
             !is_known(certificate, listed, instruction, demands)
                 || has_locals(certificate, listed, instruction, demands)
         }
-        Rule::Successor => has_successors(site, flow, known),
+        Rule::Successor => has_successors(site, flow, known, room),
         Rule::Object => names_object(story, demands),
         Rule::Attribute => names_attribute(demands),
         Rule::Property => {
@@ -228,18 +249,24 @@ fn asks<V: Spelled>(site: Site<'_, V>, flow: &Flow<'_, V>, known: bool, rule: Ru
             texts_are_fixed(story);
             prints_fixed(site.tables, demands)
         }
-        Rule::Called => edges_keep(site, flow, rule),
+        Rule::Called => edges_keep(site, flow, rule, room),
         Rule::Buffers => takes_line(site.tables.runs(), demands),
         Rule::Known => is_known(certificate, listed, instruction, demands),
-        Rule::Returned => edges_keep(site, flow, rule),
-        Rule::Stored => edges_keep(site, flow, rule),
-        Rule::High => edges_keep(site, flow, rule),
+        Rule::Returned => edges_keep(site, flow, rule, room),
+        Rule::Stored => edges_keep(site, flow, rule, room),
+        Rule::High => edges_keep(site, flow, rule, room),
         Rule::Status => !demands.shows_status || has_line_object(story, certificate),
     }
 }
 
 /// Whether a place where an instruction is keeps a rule.
-fn keeps<V: Spelled>(site: Site<'_, V>, flow: &Flow<'_, V>, known: bool, rule: Rule) -> bool
+fn keeps<V: Spelled>(
+    site: Site<'_, V>,
+    flow: &Flow<'_, V>,
+    known: bool,
+    rule: Rule,
+    room: &mut V::Room,
+) -> bool
     requires there { IsThere site.story.now site.listed.now.address site.instruction.now }
     requires near { site.listed.now.address + site.instruction.now.size ≤ 131072 }
     requires tables { site.tables.now ≡ record { story = site.story.now; ranges = site.certificate.now.ranges } }
@@ -248,11 +275,15 @@ fn keeps<V: Spelled>(site: Site<'_, V>, flow: &Flow<'_, V>, known: bool, rule: R
     requires known { IsTrue known ↔ GivesKnown V.operations (claims_of V.operations site.certificate.now) site.listed.now.address site.story.now site.instruction.now (entry_of (seen site.listed.now)).shape }
     ensures { IsTrue result ↔ Keeps V.operations (claims_of V.operations site.entry.certificate.now) site.entry.story.now site.entry.listed.now.address (entry_of (seen site.entry.listed.now)) rule }
 {
-    asks(site, flow, known, rule)
+    asks(site, flow, known, rule, room)
 }
 
 /// The lowest rule that an instruction breaks of those that are asked where one is, and `None` where it keeps all (own).
-fn first_broken<V: Spelled>(site: Site<'_, V>, flow: &Flow<'_, V>) -> Option<Rule>
+fn first_broken<V: Spelled>(
+    site: Site<'_, V>,
+    flow: &Flow<'_, V>,
+    room: &mut V::Room,
+) -> Option<Rule>
     requires there { IsThere site.story.now site.listed.now.address site.instruction.now }
     requires near { site.listed.now.address + site.instruction.now.size ≤ 131072 }
     requires tables { site.tables.now ≡ record { story = site.story.now; ranges = site.certificate.now.ranges } }
@@ -263,7 +294,7 @@ fn first_broken<V: Spelled>(site: Site<'_, V>, flow: &Flow<'_, V>) -> Option<Rul
 {
     let known = gives_known(site, flow);
     for rule in RULES {
-        if !keeps(site, flow, known, rule) {
+        if !keeps(site, flow, known, rule, room) {
             return Some(rule);
         }
     }
@@ -318,6 +349,39 @@ pub fn judge<'c, V: Spelled>(
     ensures kept { IfOk result (λ i. (rule : ARule) → Keeps V.operations (claims_of V.operations certificate.now) story.now listed.now.address (entry_of (seen listed.now)) rule) }
     ensures broken { IfErr result (IsLowestBroken V.operations (claims_of V.operations certificate.now) story.now listed.now.address (entry_of (seen listed.now))) }
 {
+    let mut room = V::room();
+    judge_in(
+        story,
+        tables,
+        certificate,
+        listed,
+        near,
+        ends,
+        blocks,
+        &mut room,
+    )
+}
+
+/// What `judge` answers. The sets of the other places that it looks at may be made in the room, those of one at a time, so that a check
+/// makes one room for all instructions.
+pub fn judge_in<'c, V: Spelled>(
+    story: &'c Story,
+    tables: &'c Tables<'c>,
+    certificate: &'c Certificate<V>,
+    listed: &Instruction<'_, V>,
+    near: usize,
+    ends: &mut TextEnds<'_>,
+    blocks: Option<&'c Blocks<V>>,
+    room: &mut V::Room,
+) -> Result<Instr, Rule>
+    requires ends { ends.old ≡ story.now.memory }
+    requires tables { tables.now ≡ record { story = story.now; ranges = certificate.now.ranges } }
+    requires blocks { IfSome blocks (λ b. AreBlocks V.operations (claims_of V.operations certificate.now) story.now b.now) }
+    ensures memory { ends.new ≡ ends.old }
+    ensures there { IfOk result (λ i. IsThere story.now listed.now.address i) }
+    ensures kept { IfOk result (λ i. (rule : ARule) → Keeps V.operations (claims_of V.operations certificate.now) story.now listed.now.address (entry_of (seen listed.now)) rule) }
+    ensures broken { IfErr result (IsLowestBroken V.operations (claims_of V.operations certificate.now) story.now listed.now.address (entry_of (seen listed.now))) }
+{
     let Some(instruction) = spelled_there(story, listed.address, ends) else {
         return Err(Rule::Decodes);
     };
@@ -337,7 +401,7 @@ pub fn judge<'c, V: Spelled>(
         near,
         blocks,
     };
-    match first_broken(site, &flow) {
+    match first_broken(site, &flow, room) {
         None => Ok(instruction),
         Some(rule) => Err(rule),
     }

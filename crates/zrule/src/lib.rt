@@ -20,7 +20,7 @@ mod wanted;
 
 pub use blocks::Blocks;
 pub use facts::hold_anyway;
-pub use judging::{instruction_there, judge, rule_at};
+pub use judging::{instruction_there, judge, judge_in, rule_at};
 pub use laws::{each_step_is_safe, saves_are_accepted};
 pub use rule::Rule;
 pub use site::globals_there;

@@ -20,7 +20,7 @@ loop-index-preserved g c =
       made = rw c.push_reserved.ensures.items made;
       count = search rules;
       room = search rules;
-      same = c.judge.ensures.memory ∙ c.loop-index.invariant.same;
+      same = c.judge_in.ensures.memory ∙ c.loop-index.invariant.same;
     }
 
 pub returns-clause-passes : goal.returns-clause-passes

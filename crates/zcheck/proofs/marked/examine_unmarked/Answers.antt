@@ -11,8 +11,8 @@ returns-in-Err g c =
 
 pub loop-index-preserved : goal.loop-index-preserved
 loop-index-preserved g c = record {
-  kept = first_more g.V.Domain.operations c.args.story.now c.args.certificate.now (λ i. i.is_marked) c.loop-index.index (seen c.instruction-listed.result) c.instruction-listed.ensures.value c.loop-index.invariant.kept (λ unmarked. c.in_default-judge.ensures.kept);
-  same = c.judge.ensures.memory ∙ c.loop-index.invariant.same;
+  kept = first_more g.V.Domain.operations c.args.story.now c.args.certificate.now (λ i. i.is_marked) c.loop-index.index (seen c.instruction-listed.result) c.instruction-listed.ensures.value c.loop-index.invariant.kept (λ unmarked. c.in_default-judge_in.ensures.kept);
+  same = c.judge_in.ensures.memory ∙ c.loop-index.invariant.same;
 }
 
 pub returns : goal.returns

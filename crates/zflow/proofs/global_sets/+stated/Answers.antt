@@ -10,4 +10,4 @@ pub returns-in-len1-up : goal.returns-in-len1-up
 returns-in-len1-up g t c = λ globals there.
     let fact = c.fact-item.result in
     let next = first_fact c.args.facts.now fact globals c.in-len1-up.len_at_least c.fact-item.is in
-    rw next (c.stated.ensures (put (Some (fact.global, fact.values)) globals) (c.at_or.ensures globals there))
+    rw next (c.stated.ensures (put (Some (fact.global, fact.values)) globals) (c.told_or.ensures globals there))

@@ -1,10 +1,10 @@
 use Rattle.std.proofs.Common.{◌≡◌, Some, ap}
-use Rattle.std.specs.Prelude.{Option, option_map, slice_get}
+use Rattle.std.specs.Prelude.{Option, option_map}
 use Rattle.zcert.specs.Certificate.{Instruction}
 use Rattle.zcert.specs.Listed.{seen}
 use Rattle.zquetzal.specs.View.{seen_frame}
 use Rattle.zstate.specs.Saves.{taken_frame}
-use Rattle.zrule.specs.Claims.{Entry, claims_of, entry_of}
+use Rattle.zrule.specs.Claims.{claims_of, entry_of}
 use Rattle.zjudge.specs.Frames.{GoesOnAt}
 use Rattle.zjudge.specs.View.{entry_at, instruction_or, waiting_of}
 use Rattle.zjudge.proofs.Rising.{newest_where}

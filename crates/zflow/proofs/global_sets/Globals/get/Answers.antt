@@ -14,5 +14,5 @@ pub returns : goal.returns
 returns g c =
     let own = c.args.self.own.now in
     let told = c.in_ok-own.ensures.lookup in
-    let there : slice_get own c.args.index ≡ Some c.in_ok-own.field-0.now = slice_get_read own (length own) c.args.index c.in_ok-own.field-0.now refl told.3.0 told.1 in
+    let there : slice_get own c.args.index ≡ Some c.in_ok-own.own.now = slice_get_read own (length own) c.args.index c.in_ok-own.own.now refl told.3.0 told.1 in
     sym (c.stated.ensures own there)

@@ -2,7 +2,7 @@ use Rattle.zcert.specs.Listed.{seen}
 use Rattle.zrule.specs.Claims.{claims_of, entry_of}
 use Rattle.zrule.specs.Rules.{Keeps}
 use Rattle.zrule.proofs.Order.{none_below}
-use Rattle.zrule.proofs.judging.judge.Goals as goal
+use Rattle.zrule.proofs.judging.judge_in.Goals as goal
 
 pub returns-in_default-clause-broken : goal.returns-in_default-clause-broken
 returns-in_default-clause-broken g c = record {
