@@ -5,12 +5,16 @@ import os
 import tempfile
 
 from frames import limited
+from lists import run_of
 from program import Answer
 from samples import CODE, HELLO, NOP, QUIT, certificate, changed, story, with_objects
+from stated import stated
 
 INFO = ["info", "story"]
 SAMPLE = story(HELLO + QUIT)
 ITS_CERTIFICATE = certificate(SAMPLE, [0x324, 0x329])
+# One that marks the quit, and states three facts on globals.
+STATING = stated(ITS_CERTIFICATE, [(0x324, 0, run_of(0, 0)), (0x324, 239, run_of(0, 9)), (0x329, 0, run_of(0, 5))], [0x329])
 SUM = sum(SAMPLE[64:]) % 65536
 HEAD = "release: 1\nserial: 260101\n"
 
@@ -32,9 +36,10 @@ OBJECTS = with_objects()
 
 RUNS = [
     ("a story alone", {"story": SAMPLE}, facts()),
-    ("with its certificate", {"story": SAMPLE, "story.cert": ITS_CERTIFICATE}, facts(beside="version 1, routines 0, instructions 2, marked 0")),
-    ("with one that names a limit", {"story": SAMPLE, "story.cert": limited(ITS_CERTIFICATE, 4095)}, facts(beside="version 3, frames 4095, routines 0, instructions 2, marked 0")),
-    ("with one that isn't accepted", {"story": SAMPLE, "story.cert": certificate(SAMPLE, [0x324])}, facts(beside="version 1, routines 0, instructions 1, marked 0")),
+    ("with its certificate", {"story": SAMPLE, "story.cert": ITS_CERTIFICATE}, facts(beside="version 1, routines 0, instructions 2, marked 0, facts 0")),
+    ("with one that names a limit", {"story": SAMPLE, "story.cert": limited(ITS_CERTIFICATE, 4095)}, facts(beside="version 3, frames 4095, routines 0, instructions 2, marked 0, facts 0")),
+    ("with one that marks and states facts", {"story": SAMPLE, "story.cert": STATING}, facts(beside="version 5, frames 1024, routines 0, instructions 2, marked 1, facts 3")),
+    ("with one that isn't accepted", {"story": SAMPLE, "story.cert": certificate(SAMPLE, [0x324])}, facts(beside="version 1, routines 0, instructions 1, marked 0, facts 0")),
     ("with one of another story", {"story": SAMPLE, "story.cert": certificate(SAMPLE, [0x324, 0x329], release=2)}, facts(beside="refused, S1")),
     ("with another file", {"story": SAMPLE, "story.cert": SAMPLE}, facts(beside="refused, K1")),
     ("with an empty one", {"story": SAMPLE, "story.cert": b""}, facts(beside="refused, K3")),
@@ -55,13 +60,17 @@ RUNS = [
 ALONE = {
     "file": "story", "release": 1, "serial": "260101", "length": 0x32A, "checksum": SUM, "sum": SUM, "checksum_right": True, "objects": 0, "words": 0,
     "routines": 0, "instructions": 2, "code": None, "address": None, "cause": None, "opcode": None, "certificate": None, "certificate_code": None, "certificate_readable": None,
-    "certificate_version": None, "certificate_frames": None, "certificate_routines": None, "certificate_instructions": None, "certificate_marks": None,
+    "certificate_version": None, "certificate_frames": None, "certificate_routines": None, "certificate_instructions": None, "certificate_marks": None, "certificate_facts": None,
 }
-OWN = {"certificate": "story.cert", "certificate_readable": True, "certificate_version": 1, "certificate_routines": 0, "certificate_instructions": 2, "certificate_marks": 0}
+OWN = {"certificate": "story.cert", "certificate_readable": True, "certificate_version": 1, "certificate_routines": 0, "certificate_instructions": 2, "certificate_marks": 0, "certificate_facts": 0}
 OBJECT_RUNS = [
     ("a story alone", {"story": SAMPLE}, {}),
     ("with its certificate", {"story": SAMPLE, "story.cert": ITS_CERTIFICATE}, OWN),
     ("with one that names a limit", {"story": SAMPLE, "story.cert": limited(ITS_CERTIFICATE, 7)}, {**OWN, "certificate_version": 3, "certificate_frames": 7}),
+    (
+        "with one that marks and states facts", {"story": SAMPLE, "story.cert": STATING},
+        {**OWN, "certificate_version": 5, "certificate_frames": 1024, "certificate_marks": 1, "certificate_facts": 3},
+    ),
     ("with another file", {"story": SAMPLE, "story.cert": SAMPLE}, {"certificate": "story.cert", "certificate_readable": True, "certificate_code": "K1"}),
     ("with one of another story", {"story": SAMPLE, "story.cert": certificate(SAMPLE, [CODE], release=2)}, {"certificate": "story.cert", "certificate_readable": True, "certificate_code": "S1"}),
     ("with no checksum", {"story": changed(SAMPLE, 0x1C, 0, 0)}, {"checksum": 0, "checksum_right": None}),
@@ -80,7 +89,7 @@ def see_facts(program, count):
     for name, files, wanted in RUNS:
         count.is_answer(f"info, {name}", program.run(INFO, files), wanted)
     named = {"a.z3": SAMPLE, "a.cert": ITS_CERTIFICATE, "a.z3.cert": b""}
-    count.is_answer("info, a certificate of the story's name", program.run(["info", "a.z3"], named), facts(beside="version 1, routines 0, instructions 2, marked 0"))
+    count.is_answer("info, a certificate of the story's name", program.run(["info", "a.z3"], named), facts(beside="version 1, routines 0, instructions 2, marked 0, facts 0"))
     for name, files, other in OBJECT_RUNS:
         answer = program.run([*INFO, "--json"], files)
         wanted = {**ALONE, "sha256": hashlib.sha256(files["story"]).hexdigest(), **other}

@@ -3,6 +3,7 @@ from frames import limited
 from lists import certificate as certificate_with_lists, list_of, run_of
 from program import Answer
 from samples import HELLO, NOP, QUIT, certificate, changed, interval, story
+from stated import stated
 
 SHOW = ["show", "story", "certificate"]
 SAMPLE = story(HELLO + QUIT)
@@ -56,6 +57,12 @@ ITS_LISTS = claims("version 2, intervals and lists", {20: "-2, 0"}, (), ["routin
 
 LIMITED = files(SAMPLE, limited(certificate(SAMPLE, LISTED), 4095))
 
+# ---- facts on globals: of one before the print, and of two before the quit; and that one which is 0 isn't
+
+STATING = "version 5, intervals and lists\nframe limit 1024"
+FACTS = files(SAMPLE, stated(certificate(SAMPLE, LISTED), [(0x324, 0, run_of(0, 5)), (0x329, 1, list_of(0, 7)), (0x329, 239, run_of(-5, 0))]))
+FALSE_FACT = files(SAMPLE, stated(certificate(SAMPLE, LISTED), [(0x329, 0, run_of(1, 5))]))
+
 # The object 0 is asked for its parent: get_parent 0 -> global 16.
 ORPHAN = story(b"\x93\0\x10" + QUIT)
 ORPHANED = files(ORPHAN, certificate(ORPHAN, [0x324, 0x327]))
@@ -88,6 +95,14 @@ RUNS = [
     ("an instruction, and a limit of frames", [*SHOW, "00324"], LIMITED, shown(claims("version 3, intervals and lists\nframe limit 4095"), PRINT)),
     ("the least limit of frames", SHOW, files(SAMPLE, limited(certificate(SAMPLE, LISTED), 0)), shown(claims("version 3, intervals and lists\nframe limit 0"), "instructions 2\n")),
     ("a limit of too many frames", SHOW, files(SAMPLE, limited(certificate(SAMPLE, LISTED), 4097)), refused("K7")),
+    ("how many facts are stated", SHOW, FACTS, shown(claims(STATING), "instructions 2\nfacts 3\n")),
+    ("that none is", SHOW, files(SAMPLE, stated(certificate(SAMPLE, LISTED))), shown(claims(STATING), "instructions 2\n")),
+    ("a fact", [*SHOW, "00324"], FACTS, shown(claims(STATING), "00324 0 print\nheight 0\nglobal 16: 0 to 5\nits rule holds\n")),
+    ("facts", [*SHOW, "00329"], FACTS, shown(claims(STATING), "00329 0 quit\nheight 0\nglobal 17: 0, 7\nglobal 255: -5 to 0\nits rule holds\n")),
+    ("a fact that doesn't hold", [*SHOW, "00329"], FALSE_FACT, shown(claims(STATING), "00329 0 quit\nheight 0\nglobal 16: 1 to 5\nits rule holds\n")),
+    ("the instruction before it", [*SHOW, "00324"], FALSE_FACT, shown(
+        claims(STATING), "00324 0 print\nheight 0\nbroken: I4: what follows the instruction isn't known well enough.\n"
+    )),
     ("no object", [*SHOW, "00324"], ORPHANED, shown(ITS_CLAIMS, "00324 0 get_parent\nheight 0\nbroken: I5: an operand that has to be an object may be none, most often 0.\n")),
     ("the rule of another instruction isn't told", [*SHOW, "00327"], ORPHANED, shown(ITS_CLAIMS, "00327 0 quit\nheight 0\nits rule holds\n")),
     ("a listed place with no instruction", [*SHOW, "00324"], files(BARE, certificate(BARE, [0x324, 0x327])), shown(

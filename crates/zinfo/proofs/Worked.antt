@@ -51,17 +51,17 @@ listed = refl
 
 object :
     object_of_info (codes "a.z3") (codes "00ff") (small (Unlisted (Decode (pos 0x325) (NotInProfile SetWindow)))) (codes "a.cert") Nothing
-    ≡ codes "{\"file\":\"a.z3\",\"sha256\":\"00ff\",\"release\":1,\"serial\":\"260101\",\"length\":808,\"checksum\":14702,\"sum\":14702,\"checksum_right\":true,\"objects\":0,\"words\":0,\"routines\":null,\"instructions\":null,\"code\":\"U1\",\"address\":\"00325\",\"cause\":\"J3\",\"opcode\":\"set_window\",\"certificate\":null,\"certificate_code\":null,\"certificate_readable\":null,\"certificate_version\":null,\"certificate_frames\":null,\"certificate_routines\":null,\"certificate_instructions\":null,\"certificate_marks\":null}" ++ 10 ∷ []
+    ≡ codes "{\"file\":\"a.z3\",\"sha256\":\"00ff\",\"release\":1,\"serial\":\"260101\",\"length\":808,\"checksum\":14702,\"sum\":14702,\"checksum_right\":true,\"objects\":0,\"words\":0,\"routines\":null,\"instructions\":null,\"code\":\"U1\",\"address\":\"00325\",\"cause\":\"J3\",\"opcode\":\"set_window\",\"certificate\":null,\"certificate_code\":null,\"certificate_readable\":null,\"certificate_version\":null,\"certificate_frames\":null,\"certificate_routines\":null,\"certificate_instructions\":null,\"certificate_marks\":null,\"certificate_facts\":null}" ++ 10 ∷ []
 unfolding digits print_from escape_byte small
 object = refl
 
 -- what stands beside a story
 kept : Kept
-kept = record { version = 4; frames = Some 1024; routines = 3; instructions = 40; marks = 2 }
+kept = record { version = 5; frames = Some 1024; routines = 3; instructions = 40; marks = 2; facts = 7 }
 
 beside :
     (text_of_beside Nothing ≡ codes "certificate: none" ++ 10 ∷ []) × (text_of_beside (Unreadable 3) ≡ codes "certificate: refused, K3" ++ 10 ∷ []) × (text_of_beside OfAnother ≡ codes "certificate: refused, S1" ++ 10 ∷ [])
-    × (text_of_beside (Own kept) ≡ codes "certificate: version 4, frames 1024, routines 3, instructions 40, marked 2" ++ 10 ∷ [])
+    × (text_of_beside (Own kept) ≡ codes "certificate: version 5, frames 1024, routines 3, instructions 40, marked 2, facts 7" ++ 10 ∷ [])
 unfolding digits kept
 beside = (refl, refl, refl, refl)
 

@@ -14,11 +14,12 @@ abbrev pub frames_text : Option ℕ → List ℕ
 frames_text None = []
 frames_text (Some n) = count_text (codes ", frames ") n
 
--- what a certificate has, as `version 4, frames 1024, routines 3, instructions 40, marked 2`
+-- what a certificate has, as `version 5, frames 1024, routines 3, instructions 40, marked 2, facts 7`
 abbrev pub kept_text : Kept → List ℕ
 kept_text kept =
     count_text (codes "version ") kept.version ++ frames_text kept.frames ++ count_text (codes ", routines ") kept.routines
     ++ count_text (codes ", instructions ") kept.instructions ++ count_text (codes ", marked ") kept.marks
+    ++ count_text (codes ", facts ") kept.facts
 
 -- the code of why a file is no certificate of the story: K1 to K9 of the file, S1 where it is of another story
 abbrev pub code_of : Beside → Option (List ℕ)

@@ -103,13 +103,17 @@ listed_of kept = option_map (λ k. k.instructions) kept
 abbrev pub marks_of : Option Kept → Option ℕ
 marks_of kept = option_map (λ k. k.marks) kept
 
+abbrev pub facts_of : Option Kept → Option ℕ
+facts_of kept = option_map (λ k. k.facts) kept
+
 -- what stands beside it, by this name
 abbrev pub beside_pairs : List ℕ → Beside → List Pair
 beside_pairs certificate beside =
     (codes "certificate", name_of certificate beside) ∷ (codes "certificate_code", text_or_null (code_of beside)) ∷ (codes "certificate_readable", readable_of beside)
     ∷ (codes "certificate_version", number_or_null (version_of (kept_of beside)))
     ∷ (codes "certificate_frames", number_or_null (frames_of (kept_of beside))) ∷ (codes "certificate_routines", number_or_null (parts_of (kept_of beside)))
-    ∷ (codes "certificate_instructions", number_or_null (listed_of (kept_of beside))) ∷ (codes "certificate_marks", number_or_null (marks_of (kept_of beside))) ∷ []
+    ∷ (codes "certificate_instructions", number_or_null (listed_of (kept_of beside))) ∷ (codes "certificate_marks", number_or_null (marks_of (kept_of beside)))
+    ∷ (codes "certificate_facts", number_or_null (facts_of (kept_of beside))) ∷ []
 
 abbrev pub object_of_info : List ℕ → List ℕ → Info → List ℕ → Beside → List ℕ
 object_of_info file digest info certificate beside = line_of (info_pairs file digest info ++ beside_pairs certificate beside)

@@ -40,6 +40,7 @@ fn push_kept(kept: Kept, text: &mut String) -> Result<(), AllocError>
     push_count(", routines ", kept.routines as u64, text)?;
     push_count(", instructions ", kept.instructions as u64, text)?;
     push_count(", marked ", kept.marks as u64, text)?;
+    push_count(", facts ", kept.facts as u64, text)?;
     Ok(())
 }
 

@@ -65,6 +65,8 @@ pub struct Kept {
     pub instructions: usize,
     /// How many of them it marks.
     pub marks: usize,
+    /// How many facts on globals it states.
+    pub facts: usize,
 }
 
 /// What stands beside a story, by the name of a certificate.

@@ -2,7 +2,7 @@
 
 ghost use Rattle.std.specs.Prelude.{◌≡◌, IfOk, option_map, string_bytes};
 ghost use Rattle.zinfo.specs.Beside.{code_of};
-ghost use Rattle.zinfo.specs.Object.{address_of, cause_of, fault_of, frames_of, instructions_of, kept_of, listed_of, marks_of, name_of, object_of_info, opcode_of, parts_of, readable_of, right_of, routines_of, stated_of, sum_of, version_of};
+ghost use Rattle.zinfo.specs.Object.{address_of, cause_of, facts_of, fault_of, frames_of, instructions_of, kept_of, listed_of, marks_of, name_of, object_of_info, opcode_of, parts_of, readable_of, right_of, routines_of, stated_of, sum_of, version_of};
 ghost use Rattle.zjson.specs.Objects.{value_of};
 
 use crate::facts::{Beside, Checksum, Code, Info, Kept};
@@ -19,7 +19,7 @@ use zlist::ListError;
 /// `objects`, `words`, and `routines` and `instructions`, or in their place what is at fault: `code`, `address`, and of an instruction
 /// `cause` and `opcode`. Then comes what stands beside it: `certificate`, the name of the file if there is one, `certificate_code` where it
 /// is no certificate of the story, `certificate_readable`, whether it can be read, and of a certificate of the story `certificate_version`, `certificate_frames`, `certificate_routines`,
-/// `certificate_instructions` and `certificate_marks`. What there isn't is null. Fails only for want of memory.
+/// `certificate_instructions`, `certificate_marks` and `certificate_facts`. What there isn't is null. Fails only for want of memory.
 pub fn object_of_info(
     alloc: Global,
     file: &str,
@@ -65,6 +65,7 @@ pub fn object_of_info(
             Value::of_number(listed_of(kept)),
         ),
         Member::new("certificate_marks", Value::of_number(marks_of(kept))),
+        Member::new("certificate_facts", Value::of_number(facts_of(kept))),
     ];
     line_of(alloc, &members)
 }
@@ -245,4 +246,10 @@ fn marks_of(kept: Option<Kept>) -> Option<u64>
     ensures { result ≡ marks_of kept }
 {
     Some(kept?.marks as u64)
+}
+
+fn facts_of(kept: Option<Kept>) -> Option<u64>
+    ensures { result ≡ facts_of kept }
+{
+    Some(kept?.facts as u64)
 }

@@ -1,6 +1,6 @@
 -- What is known of a file, of which a part was read.
 use Rattle.std.proofs.Common.{inr, ◌≡◌, ◌∙◌, ℕ, Bool, true, false, nat_le, leb-true, leb-false, min, List, ◌≤◌, ◌<◌, length, take, length-take, Option, Some, None, ap, sym, refl, arith}
-use Rattle.std.specs.Prelude.{IfOk, IfSome, Result, Ok, Err, ◌⊎◌, string_bytes}
+use Rattle.std.specs.Prelude.{IfOk, IfSome, Result, Ok, Err, string_bytes}
 use Rattle.std.proofs.lemmas.List.{take_all}
 use Rattle.zstory.specs.LoadedStory.{LoadedStory}
 use Rattle.zinfo.specs.Info.{heading_of}

@@ -8,7 +8,7 @@ use Rattle.zcommand.specs.CommandLine.{Show}
 use Rattle.zperform.specs.Keeping.{kept_in}
 use Rattle.zperform.specs.Performing.{is_quiet, written_by}
 use Rattle.zperform.specs.Report.{status_of, text_of}
-use Rattle.zperform.specs.Showing.{ShowComesTo, address_in, answer_line, claims_text, first_line, frame_text, interval_kind, interval_text, list_text, spelled_line, unlisted_line, values_kind}
+use Rattle.zperform.specs.Showing.{ShowComesTo, address_in, answer_line, claims_text, fact_line, facts_line, first_line, frame_text, interval_kind, interval_text, list_text, spelled_line, unlisted_line, values_kind}
 use Rattle.zperform.specs.declared.outcome.Outcome.TheVariants.{NoAddress, Shown}
 
 -- an address has one to five digits, capitals or not
@@ -66,6 +66,12 @@ frames :
     ≡ codes "height 2" ++ 10 ∷ codes "local 1: 0 to 5" ++ 10 ∷ codes "slot 1: -7" ++ 10 ∷ codes "slot 2: any word" ++ 10 ∷ []
 unfolding digits five any one
 frames = refl
+
+facts :
+    (fact_line interval_text (record { address = 804; global = 0; values = five }) ≡ codes "global 16: 0 to 5" ++ 10 ∷ []) × (fact_line interval_text (record { address = 0; global = 239; values = one }) ≡ codes "global 255: -7" ++ 10 ∷ [])
+    × (facts_line 0 ≡ []) × (facts_line 12 ≡ codes "facts 12" ++ 10 ∷ [])
+unfolding digits five one
+facts = (refl, refl, refl, refl)
 
 unspelled : (spelled_line {V = Interval} (record { address = 804; routine = 1; is_marked = false; locals = []; slots = [] }) None ≡ codes "00324 1 no instruction" ++ 10 ∷ []) × (unlisted_line 1048575 ≡ codes "fffff isn't listed" ++ 10 ∷ [])
 unfolding digits

@@ -37,7 +37,7 @@ name_of_certificate story = name_beside story (codes "cert")
 -- what a certificate has
 abbrev pub kept_of : {V : Type 0} → Format V → Certificate V → Kept
 kept_of format c =
-    record { version = version_of format (edition_of c); frames = c.limit; routines = length c.routines; instructions = length c.instructions; marks = marks_in c }
+    record { version = version_of format (edition_of c); frames = c.limit; routines = length c.routines; instructions = length c.instructions; marks = marks_in c; facts = length c.facts }
 
 module _ {V : Type 0} (format : Format V) (known : Option (List ℕ)) (story : LoadedStory) where
   -- a file spells a certificate of the story, accepted or not, that has this

@@ -1,5 +1,5 @@
 -- What showing a certificate comes to: what it says, in words (own).
-use Rattle.std.specs.Prelude.{◌≡◌, ◌⊎◌, ◌==◌, ℕ, suc, pos, negsuc, ◌&&◌, not, int_le, nat_lt, ◌++◌, List, [], ◌∷◌, length, take_while, flat_map, Option, None, Some, MatchOption, unwrap_or, codes, decimal, if◌then◌else◌}
+use Rattle.std.specs.Prelude.{◌≡◌, ◌⊎◌, ◌==◌, ℕ, zero, suc, ◌+◌, pos, negsuc, ◌&&◌, not, int_le, nat_lt, ◌++◌, List, [], ◌∷◌, length, take_while, flat_map, Option, None, Some, MatchOption, unwrap_or, codes, decimal, if◌then◌else◌}
 use Rattle.std.specs.Char.{is_digit}
 use Rattle.std.specs.Fmt.{signed_decimal}
 use Rattle.std.specs.List.{list_all}
@@ -15,9 +15,11 @@ use Rattle.zdomain.specs.declared.interval.Interval.{Interval}
 use Rattle.zdomain.specs.declared.values.Values.{Values}
 use Rattle.zdomain.specs.declared.values.Values.TheVariants.{Run, List as AList}
 use Rattle.zcert.specs.Certificate.{Certificate, Instruction, edition_of}
+use Rattle.zcert.specs.Facts.{facts_at}
 use Rattle.zcert.specs.Format.{Format, interval_format, version_of}
 use Rattle.zcert.specs.Listed.{listed_at}
 use Rattle.zcert.specs.Lists.{values_format}
+use Rattle.zcert.specs.declared.parts.Fact.{Fact}
 use Rattle.zcert.specs.declared.parts.Range.{Range}
 use Rattle.zcert.specs.declared.parts.Routine.{Routine}
 use Rattle.zrule.specs.Claims.{claims_of, entry_of}
@@ -112,6 +114,16 @@ module _ {V : Type 0} (set_text : V → List ℕ) where
   abbrev pub frame_text : Instruction V → List ℕ
   frame_text i = codes "height " ++ decimal (length i.slots) ++ 10 ∷ [] ++ numbered (set_line (codes "local ")) 1 i.locals ++ numbered (set_line (codes "slot ")) 1 i.slots
 
+module _ {V : Type 0} (set_text : V → List ℕ) where
+  -- what it says of a global at one place: the number of its variable, from 16 on (Z 6.2), and the words
+  abbrev pub fact_line : Fact V → List ℕ
+  fact_line f = set_line set_text (codes "global ") (16 + f.global) f.values
+
+-- how many facts are stated, where any are
+abbrev pub facts_line : ℕ → List ℕ
+facts_line zero = []
+facts_line (suc n) = codes "facts " ++ decimal (suc n) ++ 10 ∷ []
+
 -- ---- one instruction
 
 -- an address with no instruction, and the number of its routine
@@ -153,22 +165,22 @@ module _ {V : Type 0} (o : SetOperations V) (story : LoadedStory) (c : Certifica
   IsAnswer address i answer = MatchOption answer ((rule : Rule) → Keeps o (claims_of o c) story address (entry_of i) rule) (IsLowestBroken o (claims_of o c) story address (entry_of i))
 
 module _ {V : Type 0} (o : SetOperations V) (set_text : V → List ℕ) (story : LoadedStory) (c : Certificate V) where
-  -- an instruction that is listed at an address: as the story spells it, what is said of its frame, and whether that holds
+  -- an instruction that is listed at an address: as the story spells it, what is said of its frame and of globals there, and whether that holds
   pub record IsTold (address : ℕ) (i : Instruction V) (text : List ℕ) : Type 0 where
     pub spelled : Option Spelled
     pub there : IsSpelled o story c address spelled
     pub answer : Option Rule
     pub judged : IsAnswer o story c address i answer
-    pub lines : text ≡ spelled_line i spelled ++ frame_text set_text i ++ answer_line answer
+    pub lines : text ≡ spelled_line i spelled ++ frame_text set_text i ++ flat_map (fact_line set_text) (facts_at c.facts address) ++ answer_line answer
 
   -- what is said of an address
   abbrev pub IsToldOf : ℕ → Option (Instruction V) → List ℕ → Type 0
   IsToldOf address None text = text ≡ unlisted_line address
   IsToldOf address (Some i) text = IsTold address i text
 
-  -- the last lines: of an address, or how many instructions are listed
+  -- the last lines: of an address, or how many instructions are listed, and how many facts are stated
   abbrev pub IsEnd : Option ℕ → List ℕ → Type 0
-  IsEnd None text = text ≡ codes "instructions " ++ decimal (length c.instructions) ++ 10 ∷ []
+  IsEnd None text = text ≡ (codes "instructions " ++ decimal (length c.instructions) ++ 10 ∷ []) ++ facts_line (length c.facts)
   IsEnd (Some address) text = IsToldOf address (listed_at c.instructions address) text
 
   -- all lines

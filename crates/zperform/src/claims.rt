@@ -1,17 +1,17 @@
 //! What a certificate says, as lines.
 
-ghost use Rattle.std.specs.Prelude.{◌≡◌, ◌++◌, ◌+◌, ◌≤◌, [], ◌∷◌, List, ℕ, Some, None, IfOk, MatchOption, codes, decimal, flat_map};
+ghost use Rattle.std.specs.Prelude.{◌≡◌, ◌++◌, ◌+◌, ◌<◌, [], ◌∷◌, List, ℕ, Some, None, IfOk, codes, decimal, flat_map};
 ghost use Rattle.zcert.specs.Certificate.{edition_of};
+ghost use Rattle.zcert.specs.Facts.{facts_at};
 ghost use Rattle.zcert.specs.Format.{version_of};
 ghost use Rattle.zcert.specs.Listed.{listed_at, seen};
-ghost use Rattle.zrule.specs.declared.rule.Rule.{Rule as ARule};
-ghost use Rattle.zperform.specs.Showing.{IsEnd, IsShown, IsTold, IsToldOf, answer_line, claims_text, explained_text, first_line, bare_line, frame_text, frames_line, heading_text, limit_line, numbered, range_line, routine_line, routine_place, set_line, spelled_line, unlisted_line};
+ghost use Rattle.zperform.specs.Showing.{IsEnd, IsShown, IsToldOf, answer_line, claims_text, explained_text, fact_line, facts_line, first_line, bare_line, frame_text, heading_text, limit_line, numbered, range_line, routine_line, routine_place, set_line, spelled_line, unlisted_line};
 
 use crate::listing::{add_address, add_line};
 use crate::told::Told;
 use itoa::Buffer;
 use std::alloc::{AllocError, Global};
-use zcert::{Certificate, Instruction, Range, Routine};
+use zcert::{Certificate, Fact, Instruction, Range, Routine};
 use zcode::Instr;
 use zexplain::explanation;
 use zlist::Record;
@@ -168,7 +168,7 @@ fn add_routine_place(number: usize, address: u32, text: &mut Vec<u8>) -> Result<
     Ok(())
 }
 
-/// Adds the last lines: of an address, or how many instructions are listed.
+/// Adds the last lines: of an address, or how many instructions are listed, and how many facts are stated.
 fn add_end<V: Told>(
     alloc: Global,
     story: &Story,
@@ -180,8 +180,34 @@ fn add_end<V: Told>(
 {
     match address {
         Some(address) => add_place(alloc, story, certificate, address, text),
-        None => add_count(certificate.instruction_count(), text),
+        None => add_counts(
+            certificate.instruction_count(),
+            certificate.facts().len(),
+            text,
+        ),
     }
+}
+
+/// Adds how many instructions are listed, and how many facts are stated.
+fn add_counts(instructions: usize, facts: usize, text: &mut Vec<u8>) -> Result<(), AllocError>
+    ensures { IfOk result (λ _. text.new.items ≡ text.old.items ++ (codes "instructions " ++ decimal instructions ++ 10 ∷ []) ++ facts_line facts) }
+{
+    add_count(instructions, text)?;
+    match facts {
+        0 => Ok(()),
+        some => add_fact_count(some, text),
+    }
+}
+
+/// Adds how many facts are stated, where any are.
+fn add_fact_count(count: usize, text: &mut Vec<u8>) -> Result<(), AllocError>
+    requires { 0 < count }
+    ensures { IfOk result (λ _. text.new.items ≡ text.old.items ++ facts_line count) }
+{
+    text.extend_from_slice(b"facts ")?;
+    text.extend_from_slice(Buffer::new().format(count).as_bytes())?;
+    text.push(b'\n')?;
+    Ok(())
 }
 
 /// Adds how many instructions are listed.
@@ -211,6 +237,7 @@ fn add_place<V: Told>(
     };
     add_spelled(&listed, instruction_there(story, address), text)?;
     add_frame(&listed, text)?;
+    add_facts(certificate.facts_at(address), text)?;
     add_answer(alloc, rule_at(story, certificate, address), text)?;
     Ok(())
 }
@@ -266,6 +293,24 @@ fn add_frame<V: Told>(listed: &Instruction<'_, V>, text: &mut Vec<u8>) -> Result
     text.push(b'\n')?;
     add_sets(b"local ", 1, listed.locals, text)?;
     add_sets(b"slot ", 1, listed.slots, text)
+}
+
+/// Adds a line for each of these facts on globals.
+fn add_facts<V: Told>(facts: &[Fact<V>], text: &mut Vec<u8>) -> Result<(), AllocError>
+    ensures { IfOk result (λ _. text.new.items ≡ text.old.items ++ flat_map (fact_line V.set_text) facts.now) }
+{
+    for fact in facts {
+        add_fact(*fact, text)?;
+    }
+    Ok(())
+}
+
+/// Adds the line of a fact, with the number of the global's variable.
+fn add_fact<V: Told>(fact: Fact<V>, text: &mut Vec<u8>) -> Result<(), AllocError>
+    ensures { IfOk result (λ _. text.new.items ≡ text.old.items ++ fact_line V.set_text fact) }
+{
+    let number = u128::from(FIRST_GLOBAL) + u128::from(fact.global);
+    add_set(b"global ", number, fact.values, text)
 }
 
 /// Adds what is answered of the rules.

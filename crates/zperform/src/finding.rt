@@ -1,6 +1,6 @@
 //! Certificates found for a story's file, and codes explained.
 
-ghost use Rattle.std.specs.Prelude.{◌≡◌, ◌≢◌, ◌≤◌, ◌++◌, ℕ, List, true, IfErr, IfOk, IfSome, IsErrOf};
+ghost use Rattle.std.specs.Prelude.{◌≡◌, ◌≤◌, ◌++◌, ℕ, List, true, IfErr, IfOk, IfSome, IsErrOf};
 ghost use Rattle.zplayer.specs.Outside.{Blames};
 ghost use Rattle.zperform.specs.Blaming.{IsUnread, IsUnreadOrUnwritten};
 ghost use Rattle.zperform.specs.Devices.{FlushesUnless, ReadsUnless, held};

@@ -5,7 +5,7 @@ ghost use Rattle.zfault.specs.Devices.{RisesByOne};
 ghost use Rattle.zperform.specs.Blaming.{IsUnread};
 ghost use Rattle.zperform.specs.Accepting.{version_of};
 ghost use Rattle.zperform.specs.Devices.{FlushesUnless, ReadsUnless};
-ghost use Rattle.zperform.specs.Informing.{HoldsDigested, HoldsInfo, InfoComesTo, IsBeside, IsKeptOf, IsNoInfo, IsNotKept, IsUntold, beside_by, info_text, kept_of, lines_of, name_of_certificate};
+ghost use Rattle.zperform.specs.Informing.{HoldsDigested, HoldsInfo, InfoComesTo, IsBeside, IsKeptOf, IsNoInfo, IsNotKept, IsUntold, beside_by, info_text, kept_of, lines_of};
 
 use crate::accepting::{STORY_LIMIT, has_lists, load_bytes};
 use crate::feeding::{HEADING, feed_certificate};
@@ -201,5 +201,6 @@ fn kept_of<V: Spelled>(certificate: &Certificate<V>) -> Kept
         routines: certificate.routines().len(),
         instructions: certificate.instruction_count(),
         marks: certificate.marks(),
+        facts: certificate.facts().len(),
     }
 }

@@ -1,6 +1,6 @@
 //! The line that says what a command came to, made with no memory.
 
-ghost use Rattle.std.specs.Prelude.{◌≡◌, ◌<◌, ◌≤◌, ◌+◌, ◌++◌, [], ◌∷◌, codes, length, decimal, pos};
+ghost use Rattle.std.specs.Prelude.{◌≡◌, ◌<◌, ◌≤◌, ◌+◌, ◌++◌, [], codes, length, decimal, pos};
 ghost use Rattle.zfind.specs.Finding.{number_of as find_number};
 ghost use Rattle.zlist.specs.Listed.{number_of, place_of};
 ghost use Rattle.zperform.specs.Telling.{refusal_text};

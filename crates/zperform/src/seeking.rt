@@ -1,6 +1,6 @@
 //! Certificates found for many stories, and what is told of each.
 
-ghost use Rattle.std.specs.Prelude.{◌≡◌, ◌≢◌, ◌≤◌, ◌++◌, ◌∷◌, [], false, true, IfErr, IfOk, IfSome, IsErrOf, None, Ok, Some, List, ℕ, codes, map, option_map};
+ghost use Rattle.std.specs.Prelude.{◌≡◌, ◌≢◌, ◌≤◌, ◌++◌, false, true, IfErr, IfOk, IfSome, IsErrOf, None, Ok, Some, List, ℕ, codes, map, option_map};
 ghost use Rattle.zperform.specs.Blaming.{IsUnreadOrUnwritten};
 ghost use Rattle.zperform.specs.Contents.{SparesOthers};
 ghost use Rattle.zperform.specs.Devices.{FlushesUnless, UsesUnless, held};

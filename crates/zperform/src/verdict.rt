@@ -1,6 +1,6 @@
 //! What came of a story's file, as an object of JSON.
 
-ghost use Rattle.std.specs.Prelude.{◌≡◌, ◌<◌, ◌≤◌, IfOk, IfSome, None, Some, length, codes, decimal, drop, option_map, pos, string_bytes, ◌++◌};
+ghost use Rattle.std.specs.Prelude.{◌≡◌, ◌<◌, ◌≤◌, IfOk, IfSome, None, Some, length, decimal, drop, option_map, pos, string_bytes, ◌++◌};
 ghost use Rattle.zinfo.specs.Info.{heading_of};
 ghost use Rattle.zinfo.specs.Shown.{shown};
 ghost use Rattle.zinfo.specs.Text.{place_text};
@@ -9,7 +9,7 @@ ghost use Rattle.zlist.specs.Listed.{place_of};
 ghost use Rattle.zstory.specs.LoadedStory.{LoadedStory};
 ghost use Rattle.zstory.specs.declared.load_error.LoadError.{LoadError};
 ghost use Rattle.zperform.specs.Playing.{Holds, IsUnloaded};
-ghost use Rattle.zperform.specs.Verdicts.{AreFactsOf, IsVerdictText, address_text, code_text, failure_word, marks_in, of_problem, outcome_word, stopped_place};
+ghost use Rattle.zperform.specs.Verdicts.{AreFactsOf, IsVerdictText, address_text, code_text, failure_word, marks_in, of_problem, outcome_word};
 ghost use Rattle.zperform.specs.Wording.{words_text};
 
 use crate::accepting::{STORY_LIMIT, load_bytes};

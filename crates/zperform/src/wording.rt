@@ -1,7 +1,6 @@
 //! What is said in words: behind a code what it means.
 
-ghost use Rattle.std.specs.Prelude.{◌≡◌, ◌++◌, ◌∷◌, IfOk, codes, decimal, option_map};
-ghost use Rattle.zperform.specs.Blaming.{blame_text};
+ghost use Rattle.std.specs.Prelude.{◌≡◌, ◌++◌, IfOk, decimal, option_map};
 ghost use Rattle.zperform.specs.Wording.{blamed_text, fault_line, first_words, problem_line, short_text, unfound_words, words_text, worded_line};
 
 use crate::blame::Blame;

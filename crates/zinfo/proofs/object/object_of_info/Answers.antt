@@ -1,6 +1,6 @@
 use Rattle.std.proofs.Common.{◌≡◌, ◌∙◌, ap, codes, rules, subst, IfOk, ℕ, List}
 use Rattle.json.specs.Json.{Json, string}
-use Rattle.zinfo.specs.Object.{frames_of, listed_of, marks_of, name_of, parts_of, version_of}
+use Rattle.zinfo.specs.Object.{facts_of, frames_of, listed_of, marks_of, name_of, parts_of, version_of}
 use Rattle.zinfo.specs.Shown.{shown}
 use Rattle.zjson.specs.Objects.{Pair, line_of, number, number_or_null, text_or_null}
 use Rattle.zjson.proofs.Members.{last, then}
@@ -36,7 +36,8 @@ returns c =
     let parts = c.new-22.ensures ∙ ap (λ (j : Json). (codes "certificate_routines", j)) (c.of_number-5.ensures ∙ ap number_or_null (c.parts_of.ensures ∙ ap parts_of c.kept_of-kept.ensures)) in
     let listed = c.new-23.ensures ∙ ap (λ (j : Json). (codes "certificate_instructions", j)) (c.of_number-6.ensures ∙ ap number_or_null (c.listed_of.ensures ∙ ap listed_of c.kept_of-kept.ensures)) in
     let marks = c.new-24.ensures ∙ ap (λ (j : Json). (codes "certificate_marks", j)) (c.of_number-7.ensures ∙ ap number_or_null (c.marks_of.ensures ∙ ap marks_of c.kept_of-kept.ensures)) in
-    let beside = then certificate (then why (then readable (then version (then frames (then parts (then listed (last marks))))))) in
+    let facts = c.new-25.ensures ∙ ap (λ (j : Json). (codes "certificate_facts", j)) (c.of_number-8.ensures ∙ ap number_or_null (c.facts_of.ensures ∙ ap facts_of c.kept_of-kept.ensures)) in
+    let beside = then certificate (then why (then readable (then version (then frames (then parts (then listed (then marks (last facts)))))))) in
     let later = then words (then routines (then instructions (then code (then address (then cause (then opcode beside)))))) in
     let all = then file (then digest (then release (then serial (then length (then stated (then sum (then right (then objects later)))))))) in
     subst (λ (ps : List Pair). IfOk c.line_of.result (λ line. line.items ≡ line_of ps)) all c.line_of.ensures.text

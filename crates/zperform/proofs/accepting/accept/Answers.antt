@@ -1,7 +1,6 @@
 use Rattle.std.proofs.Common.{inl, List, Option, ℕ, subst}
 use Rattle.zdomain.specs.Interval.{interval_operations}
 use Rattle.zcert.specs.Format.{interval_format}
-use Rattle.zstory.specs.LoadedStory.{LoadedStory}
 use Rattle.zperform.specs.Accepting.{HoldsStory, IsAcceptedStory, IsUnacceptedStory}
 use Rattle.zperform.specs.declared.accepting.AcceptedStory.{AcceptedStory}
 use Rattle.zperform.specs.declared.outcome.Problem.{Problem}

@@ -1,6 +1,5 @@
-use Rattle.std.proofs.Common.{◌≡◌, false, true, subst, rules, List, Option, ℕ}
-use Rattle.zstory.specs.LoadedStory.{LoadedStory}
-use Rattle.zperform.specs.Accepting.{HoldsStory, IsAcceptedStory, IsNoStory, IsUnacceptedStory}
+use Rattle.std.proofs.Common.{◌≡◌, false, true, subst, rules, List, ℕ}
+use Rattle.zperform.specs.Accepting.{IsAcceptedStory, IsNoStory, IsUnacceptedStory}
 use Rattle.zperform.specs.Beside.{wants_memory}
 use Rattle.zperform.specs.Blaming.{IsUnread}
 use Rattle.zperform.specs.Informing.{name_of_certificate}

@@ -1,8 +1,7 @@
-use Rattle.std.proofs.Common.{◌≡◌, ◌∙◌, ℕ, List, None, Some, ap, refl, rules, subst, sym}
-use Rattle.std.specs.Prelude.{Option, false, take}
-use Rattle.zfault.specs.Devices.{RisesByOne}
+use Rattle.std.proofs.Common.{◌≡◌, ◌∙◌, ℕ, List, None, ap, refl, rules, subst}
+use Rattle.std.specs.Prelude.{Option}
 use Rattle.zperform.specs.Accepting.{IsAcceptedStory}
-use Rattle.zperform.specs.Beside.{Absent, CountsBeside, IsFoundBeside, SaysUnused, Unused, Used, is_failing}
+use Rattle.zperform.specs.Beside.{Absent, CountsBeside, IsFoundBeside, SaysUnused, Unused, Used}
 use Rattle.zperform.specs.Devices.{held, seen}
 use Rattle.zperform.specs.Informing.{name_of_certificate}
 use Rattle.zperform.specs.Played.{file_of}

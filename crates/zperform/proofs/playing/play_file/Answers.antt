@@ -1,5 +1,4 @@
-use Rattle.std.proofs.Common.{ℕ, List, [], refl}
-use Rattle.std.specs.Prelude.{Option}
+use Rattle.std.proofs.Common.{[], refl}
 use Rattle.zperform.specs.Performing.{given, store_of}
 use Rattle.zperform.specs.Played.{file_of}
 use Rattle.zperform.specs.declared.outcome.Outcome.TheVariants.{Stopped}

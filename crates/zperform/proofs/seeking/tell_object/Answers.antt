@@ -1,4 +1,4 @@
-use Rattle.std.proofs.Common.{◌∙◌, ap, rules, inl, inr, refl, subst, sym, Bool, Err, List, Option, Ok, codes, ℕ}
+use Rattle.std.proofs.Common.{◌∙◌, rules, inl, inr, refl, subst, sym, Bool, Err, List, Option, Ok, codes, ℕ}
 use Rattle.zperform.specs.Contents.{SparesOthers}
 use Rattle.zperform.specs.Devices.{held}
 use Rattle.zperform.specs.Each.{certificate_for}

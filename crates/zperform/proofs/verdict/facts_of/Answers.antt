@@ -1,5 +1,5 @@
 use Rattle.std.proofs.Common.{◌≡◌, rules}
-use Rattle.std.specs.Prelude.{IfOk, IfSome, None, ◌<◌, ◌≤◌, Bool, List, ℕ, Option, Result, Ok, Err, Some, length, string_bytes, take}
+use Rattle.std.specs.Prelude.{Ok}
 use Rattle.zperform.proofs.VerdictLemmas.{facts_known_of}
 use Rattle.zperform.proofs.verdict.facts_of.Goals as goal
 
