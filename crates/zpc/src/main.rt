@@ -1,7 +1,7 @@
 //! The program `zpc`: lists, checks and plays Z-machine version 3 stories.
 #![tactic(auto)]
 
-ghost use Rattle.std.specs.Prelude.{◌≡◌, IfOk, map, string_bytes};
+ghost use Rattle.std.specs.Prelude.{◌≡◌, ◌≤◌, IfOk, IsTrue, map, string_bytes};
 ghost use Rattle.clap.specs.Walk.{texts};
 
 use std::alloc::{AllocError, Global};
@@ -10,6 +10,9 @@ use std::io::{ErrorKind, IsTerminal};
 use std::process::ExitCode;
 use zfault::{FromRead, ToWrite};
 use zperform::{Disk, Failure, Speech, fail, perform, refuse_bytes};
+
+/// How many bytes of the stack are taken at once: more than any command needs.
+const STACK: usize = 448 * 1024;
 
 fn main(rt: HostRuntime) -> ExitCode {
     ExitCode::from(run(&rt))
@@ -33,6 +36,9 @@ fn run(rt: &HostRuntime) -> u8 {
         Ok(words) => words,
         Err(_) => return fail(Failure::Memory, &mut errors),
     };
+    if !is_free(rt.alloc(), STACK) || !has_stack::<STACK>(words.len()) {
+        return fail(Failure::Memory, &mut errors);
+    }
     let mut reader = FromRead::new(rt.stdin());
     let mut writer = ToWrite::new(rt.stdout());
     perform(
@@ -44,6 +50,27 @@ fn run(rt: &HostRuntime) -> u8 {
         &mut writer,
         &mut errors,
     )
+}
+
+/// Whether so many bytes can be had. They are given back at once, and the stack may take them.
+fn is_free(alloc: Global, count: usize) -> bool {
+    Vec::<u8>::with_capacity(alloc, count).is_ok()
+}
+
+/// Whether there are N bytes of the stack. A system that can't lengthen a program's stack ends it, with no word. So it's made as long as
+/// it may come to be before memory is held that would leave none for it, and all that is refused later is told. By the number no compiler
+/// knows beforehand what is read.
+#[inline(never)]
+#[tactic(auto, using(crate::proofs::Stack::is_zero))]
+fn has_stack<const N: usize>(number: usize) -> bool
+    requires { 2 ≤ N }
+    ensures { IsTrue result }
+{
+    let mut stack = [0u8; N];
+    let place = number % N;
+    stack[place] = 1;
+    let other = if place == 0 { 1 } else { 0 };
+    stack[other] == 0
 }
 
 /// How a line on the errors is told: a person who reads them on a terminal gets words, and anything else codes.
