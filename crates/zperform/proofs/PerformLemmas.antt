@@ -5,7 +5,7 @@ use Rattle.clap.specs.Words.{Row, Text, fault_of, subcommand_of}
 use Rattle.zplayer.specs.declared.end.End.{End}
 use Rattle.zplayer.specs.Outside.{Blames}
 use Rattle.zquetzal.specs.declared.error.SaveError.{SaveError}
-use Rattle.zcommand.specs.CommandLine.{Asks, Check, CheckEach, Explain, Find, FindEach, Info, ListStory, OneForMany, Play, Request, Show, zpc_app}
+use Rattle.zcommand.specs.CommandLine.{Asks, Check, CheckEach, Explain, Find, FindEach, Info, ListStory, OneForMany, Play, Request, Show, zpc_app, Unpack}
 use Rattle.zperform.specs.Devices.{Devices, FlushesUnless, Held, Seen, UsesUnless, seen, told}
 use Rattle.zperform.specs.Performing.{Begins, Explains, IsBlamed, IsToldOf, Performs, Reports, SaysFor, is_each, is_quiet, spared_in, written_by}
 use Rattle.zperform.specs.declared.wording.Speech.{Speech}
@@ -83,6 +83,7 @@ says_none (CheckEach stories json) errors = refl
 says_none (Show story certificate address) errors = refl
 says_none (Info story json) errors = refl
 says_none (Explain code json) errors = refl
+says_none (Unpack story save out force) errors = refl
 
 -- what is told of a source that wasn't asked
 pub told_same : {R : Type 0} (remaining : R → Option (List ℕ)) (failures : R → ℕ) (old new : R) → new ≡ old → told remaining failures new ≡ told remaining failures old

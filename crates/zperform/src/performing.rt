@@ -28,6 +28,7 @@ use crate::outcome::{Failure, Outcome, Problem, Purpose};
 use crate::playing::{Asked, Devices, play, play_by_certificate};
 use crate::seeking::{find_each, find_one};
 use crate::showing::show_files;
+use crate::unpacking::unpack_file;
 use crate::wording::{Speech, worded};
 use clap::Error;
 use clap::error::ErrorKind;
@@ -128,6 +129,11 @@ fn kept_by<'a>(command: Command<'_, 'a>) -> Option<(&'a str, Purpose)>
             force: false,
             ..
         } => Some((save, Purpose::Save)),
+        Command::Unpack {
+            out,
+            force: false,
+            ..
+        } => Some((out, Purpose::Save)),
         _ => None,
     }
 }
@@ -244,6 +250,12 @@ fn fulfil<F: Files, R: Source, W: Sink, E: Sink>(
         }
         Command::Info { story, json } => inform(alloc, story, json, files, writer),
         Command::Explain { code, json } => explain_code(alloc, code, json, writer),
+        Command::Unpack {
+            story,
+            save,
+            out,
+            ..
+        } => unpack_file(alloc, story, save, out, files),
     }
 }
 
