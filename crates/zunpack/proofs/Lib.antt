@@ -1,0 +1,6 @@
+mod Runs
+mod Cutting
+mod Judged
+mod Made
+mod Worked
+mod Handed
