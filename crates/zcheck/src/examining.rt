@@ -13,6 +13,7 @@ use ztext::TextEnds;
 
 /// What is wrong first with a certificate for a story, and `None` where it passes (own). It takes no memory, and is
 /// never `OutOfMemory`.
+#[inline(never)]
 pub fn examine<V: Spelled>(story: &Story, certificate: &Certificate<V>) -> Option<Refusal>
     ensures { MatchOption result (Passes V.operations story.now certificate.now) (IsCause V.operations story.now certificate.now) }
 {

@@ -91,6 +91,7 @@ fn refused_without_memory<V: Spelled>(story: &Story, certificate: &Certificate<V
 
 /// What is wrong first with a certificate for a story, but where it marks, and `None` where it passes so (own). It takes no memory, and is
 /// never `OutOfMemory`.
+#[inline(never)]
 pub fn examine_unmarked<'c, V: Spelled>(
     story: &'c Story,
     certificate: &'c Certificate<V>,
