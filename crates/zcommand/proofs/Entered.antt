@@ -206,7 +206,7 @@ module _ (a : App) (others : List Shape) (last : Shape) (subs : a.subs ≡ other
 
 -- the subcommands of the program before `help`, as they are built
 abbrev its_shapes : List Shape
-its_shapes = take 7 (built zpc_app).subs
+its_shapes = take 8 (built zpc_app).subs
 
 -- where clap makes matches, they are those of one of the commands
 command_entered : (words : List Text) → fault_of zpc_app words ≡ [] → EntersOne (subcommand_of zpc_app words) its_shapes
@@ -219,8 +219,9 @@ named_of name (inr (inr (inl e))) = inr (inr (inl e))
 named_of name (inr (inr (inr (inl e)))) = inr (inr (inr (inl e)))
 named_of name (inr (inr (inr (inr (inl e))))) = inr (inr (inr (inr (inl e))))
 named_of name (inr (inr (inr (inr (inr (inl e)))))) = inr (inr (inr (inr (inr (inl e)))))
-named_of name (inr (inr (inr (inr (inr (inr (inl e))))))) = inr (inr (inr (inr (inr (inr e)))))
-named_of name (inr (inr (inr (inr (inr (inr (inr none))))))) = absurd none
+named_of name (inr (inr (inr (inr (inr (inr (inl e))))))) = inr (inr (inr (inr (inr (inr (inl e))))))
+named_of name (inr (inr (inr (inr (inr (inr (inr (inl e)))))))) = inr (inr (inr (inr (inr (inr (inr e))))))
+named_of name (inr (inr (inr (inr (inr (inr (inr (inr none)))))))) = absurd none
 
 -- what the program's clap command answers
 module _ (program : Command) (m : ArgMatches) (words : List Text) (is : app_of program ≡ zpc_app) (free : is_simple_and_free (app_of program) ≡ true → fault_of (app_of program) words ≡ []) where

@@ -17,7 +17,7 @@ use Rattle.clap.specs.Words.{ReadsOne, Row, Text, first_of, first_value, matched
 use Rattle.clap.specs.declared.parser.matches.ArgMatches.{ArgMatches}
 use Rattle.clap.specs.declared.parser.matches.ArgMatches.TheViews.{out-ArgMatches, out-SubCommand}
 use Rattle.clap.specs.Simple.{subcommand_rows}
-use Rattle.zcommand.specs.CommandLine.{IsLow, IsReadFrom, address_of, certificate_of, code_of, files_of, output_of, pair_of, target_of, frames_of, is_asked, limit_in, low_limit, number_in, number_of, save_of, story_of}
+use Rattle.zcommand.specs.CommandLine.{IsLow, IsReadFrom, address_of, certificate_of, code_of, files_of, frames_of, is_asked, limit_in, low_limit, number_in, number_of, out_of, output_of, packed_of, pair_of, save_of, story_of, target_of}
 use Rattle.zcommand.specs.declared.words.Command.{Command}
 use Rattle.zcommand.specs.declared.words.Command.TheVariants as commands
 
@@ -64,6 +64,13 @@ text_read name found o d r given empty is =
 
 pub story_read : (found : Found) (o : Option (Bor Text)) (d r : Bor Text) → option_map (λ s. s.now) o ≡ first_value found (codes "STORY") → d.now ≡ [] → r ≡ unwrap_or o d → r.now ≡ story_of (rows_of found)
 story_read = text_read (codes "STORY")
+
+-- and of the files of a save and of what is made of it
+pub packed_read : (found : Found) (o : Option (Bor Text)) (d r : Bor Text) → option_map (λ s. s.now) o ≡ first_value found (codes "SAVE") → d.now ≡ [] → r ≡ unwrap_or o d → r.now ≡ packed_of (rows_of found)
+packed_read = text_read (codes "SAVE")
+
+pub out_read : (found : Found) (o : Option (Bor Text)) (d r : Bor Text) → option_map (λ s. s.now) o ≡ first_value found (codes "OUT") → d.now ≡ [] → r ≡ unwrap_or o d → r.now ≡ out_of (rows_of found)
+out_read = text_read (codes "OUT")
 
 -- what the getter of several texts gives, or else none
 pub files_read : (found : Found) (o : Option (Bor (List (Bor Text)))) (r : Bor (List (Bor Text))) → option_map (λ s. map (λ v. v.now) s.now) o ≡ option_map raw_values (matched_of found (codes "FILE")) → UnwrapsOrElse o (λ x. x.now ≡ []) r
@@ -215,6 +222,7 @@ low_among matches (commands.Show story certificate address) h = tt
 low_among matches (commands.Play story certificate seed budget status save tell force) h = tt
 low_among matches (commands.Info story json) h = tt
 low_among matches (commands.Explain code json) h = tt
+low_among matches (commands.Unpack story save out force) h = tt
 
 pub low_if_read : (found : Option (Text × List Row)) (command : Command) → IsSomeAnd found (λ matches. IsReadFrom matches command) → IsLow command
 low_if_read (Some matches) command h = low_among matches command h

@@ -7,7 +7,7 @@ use Rattle.clap.specs.Kinds.{Kinds}
 use Rattle.clap.specs.Words.{Text, subcommand_of, fault_of}
 use Rattle.clap.specs.Walk.{bundle_met, walked}
 use Rattle.clap.specs.Faults.{defaults_fault, flags_fault, walk_fault}
-use Rattle.zcommand.specs.CommandLine.{Asks, Request, ListStory, Find, FindEach, OneForMany, Check, CheckEach, Show, Play, Info, Explain, number_in, zpc_app}
+use Rattle.zcommand.specs.CommandLine.{Asks, Request, ListStory, Find, FindEach, OneForMany, Check, CheckEach, Show, Play, Info, Explain, Unpack, number_in, zpc_app}
 
 -- a number is below 2 to the 32nd, or to the 64th, and has digits alone behind one plus
 numbers :
@@ -53,9 +53,11 @@ asked :
     × Ask (codes "explain" ∷ []) (Explain None false)
     × Ask (codes "explain" ∷ codes "I5" ∷ []) (Explain (Some (codes "I5")) false)
     × Ask (codes "explain" ∷ codes "i5" ∷ codes "--json" ∷ []) (Explain (Some (codes "i5")) true)
+    × Ask (codes "unpack" ∷ codes "a.z3" ∷ codes "a.qzl" ∷ codes "b.qzl" ∷ []) (Unpack (codes "a.z3") (codes "a.qzl") (codes "b.qzl") false)
+    × Ask (codes "unpack" ∷ codes "--force" ∷ codes "a.z3" ∷ codes "a.qzl" ∷ codes "b.qzl" ∷ []) (Unpack (codes "a.z3") (codes "a.qzl") (codes "b.qzl") true)
 unfolding walked bundle_met chars encode_utf8 flags_fault walk_fault defaults_fault
 asked =
-    ((refl, (refl, refl, refl, refl)), (refl, (refl, refl, refl, refl)), (refl, (refl, refl, refl, refl)), (refl, (refl, refl, refl, refl, refl, refl, refl, refl, refl)), (refl, (refl, refl, refl, refl, refl, refl, refl, refl, refl)), (refl, (refl, refl, refl, refl, refl, refl, refl, refl, refl)), (refl, (refl, refl, refl, refl, refl, refl, refl, refl, refl)), (refl, (refl, refl, refl)), (refl, (refl, refl, refl)), (refl, (refl, refl, refl, refl)), (refl, (refl, refl, refl, refl)), (refl, (refl, refl, refl, refl)), (refl, (refl, refl, refl, refl)), (refl, (refl, refl, refl, refl)), (refl, (refl, refl, refl, refl)), (refl, (refl, refl, (refl, refl, refl, refl, refl))), (refl, (refl, refl, (refl, refl, refl, refl, refl))), (refl, (refl, refl, (refl, refl, refl, refl, refl))), (refl, (refl, refl, (refl, refl, refl, refl, refl))), (refl, (refl, refl, (refl, refl, refl, refl, refl))), (refl, (refl, refl, (refl, refl, refl, refl, refl))), (refl, (refl, refl, (refl, refl, refl, refl, refl))), (refl, (refl, refl, (refl, refl, refl, refl, refl))), (refl, (refl, refl, refl, refl, (refl, refl, refl, refl, refl))), (refl, (refl, refl, refl, refl, (refl, refl, refl, refl, refl))), (refl, (refl, refl, refl, refl, (refl, refl, refl, refl, refl))), (refl, (refl, refl, refl)), (refl, (refl, refl, refl)), (refl, (refl, refl, refl)), (refl, (refl, refl, refl)), (refl, (refl, refl, refl)), (refl, (refl, refl, refl)), (refl, (refl, refl, refl)))
+    ((refl, (refl, refl, refl, refl)), (refl, (refl, refl, refl, refl)), (refl, (refl, refl, refl, refl)), (refl, (refl, refl, refl, refl, refl, refl, refl, refl, refl)), (refl, (refl, refl, refl, refl, refl, refl, refl, refl, refl)), (refl, (refl, refl, refl, refl, refl, refl, refl, refl, refl)), (refl, (refl, refl, refl, refl, refl, refl, refl, refl, refl)), (refl, (refl, refl, refl)), (refl, (refl, refl, refl)), (refl, (refl, refl, refl, refl)), (refl, (refl, refl, refl, refl)), (refl, (refl, refl, refl, refl)), (refl, (refl, refl, refl, refl)), (refl, (refl, refl, refl, refl)), (refl, (refl, refl, refl, refl)), (refl, (refl, refl, (refl, refl, refl, refl, refl))), (refl, (refl, refl, (refl, refl, refl, refl, refl))), (refl, (refl, refl, (refl, refl, refl, refl, refl))), (refl, (refl, refl, (refl, refl, refl, refl, refl))), (refl, (refl, refl, (refl, refl, refl, refl, refl))), (refl, (refl, refl, (refl, refl, refl, refl, refl))), (refl, (refl, refl, (refl, refl, refl, refl, refl))), (refl, (refl, refl, (refl, refl, refl, refl, refl))), (refl, (refl, refl, refl, refl, (refl, refl, refl, refl, refl))), (refl, (refl, refl, refl, refl, (refl, refl, refl, refl, refl))), (refl, (refl, refl, refl, refl, (refl, refl, refl, refl, refl))), (refl, (refl, refl, refl)), (refl, (refl, refl, refl)), (refl, (refl, refl, refl)), (refl, (refl, refl, refl)), (refl, (refl, refl, refl)), (refl, (refl, refl, refl)), (refl, (refl, refl, refl)), (refl, (refl, refl, refl, refl, refl)), (refl, (refl, refl, refl, refl, refl)))
 
 -- a command lacks a file or has too many, or there is none of the name, or none at all, or the budget is 2 to the 32nd or the
 -- seed 2 to the 64th, or the flag has a value, or the option has none or an empty one, or is there twice
@@ -80,6 +82,8 @@ wrong :
     × (is_wrong (fault_of zpc_app (codes "check" ∷ codes "a" ∷ codes "-o" ∷ codes "c" ∷ [])) ≡ true)
     × (is_wrong (fault_of zpc_app (codes "show" ∷ codes "hello.z3" ∷ [])) ≡ true)
     × (is_wrong (fault_of zpc_app (codes "show" ∷ codes "a" ∷ codes "b" ∷ codes "c" ∷ codes "d" ∷ [])) ≡ true)
+    × (is_wrong (fault_of zpc_app (codes "unpack" ∷ codes "a" ∷ codes "b" ∷ [])) ≡ true)
+    × (is_wrong (fault_of zpc_app (codes "unpack" ∷ codes "a" ∷ codes "b" ∷ codes "c" ∷ codes "d" ∷ [])) ≡ true)
     × (is_wrong (fault_of zpc_app (codes "info" ∷ [])) ≡ true)
     × (is_wrong (fault_of zpc_app (codes "info" ∷ codes "a" ∷ codes "b" ∷ [])) ≡ true)
     × (is_wrong (fault_of zpc_app (codes "explain" ∷ codes "I5" ∷ codes "I6" ∷ [])) ≡ true)
@@ -92,4 +96,4 @@ wrong :
     × (is_wrong (fault_of zpc_app (codes "play" ∷ codes "hello.z3" ∷ codes "--save=" ∷ [])) ≡ true)
     × (is_wrong (fault_of zpc_app (codes "play" ∷ codes "hello.z3" ∷ codes "--seed" ∷ codes "18446744073709551616" ∷ [])) ≡ true)
 unfolding is_wrong walked bundle_met chars encode_utf8 flags_fault walk_fault defaults_fault
-wrong = (refl, refl, refl, refl, refl, refl, refl, refl, refl, refl, refl, refl, refl, refl, refl, refl, refl, refl, refl, refl, refl, refl, refl, refl, refl, refl, refl)
+wrong = (refl, refl, refl, refl, refl, refl, refl, refl, refl, refl, refl, refl, refl, refl, refl, refl, refl, refl, refl, refl, refl, refl, refl, refl, refl, refl, refl, refl, refl)

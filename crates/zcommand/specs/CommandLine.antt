@@ -91,6 +91,14 @@ output_rule = record (file_rule (codes "output")) { short = Some 111 }
 abbrev pub code_rule : Rule
 code_rule = word_rule (codes "CODE") false
 
+-- `SAVE`, which has to be there
+abbrev pub packed_rule : Rule
+packed_rule = word_rule (codes "SAVE") true
+
+-- `OUT`, which has to be there
+abbrev pub out_rule : Rule
+out_rule = word_rule (codes "OUT") true
+
 -- `ADDRESS`, which may be there
 abbrev pub address_rule : Rule
 address_rule = word_rule (codes "ADDRESS") false
@@ -139,6 +147,14 @@ info_app = with_rule (with_rule (new_app (codes "info")) story_rule) json_rule
 abbrev pub explain_app : App
 explain_app = with_rule (with_rule (new_app (codes "explain")) code_rule) json_rule
 
+-- `unpack STORY SAVE`
+abbrev pub naming_app : App
+naming_app = with_rule (with_rule (new_app (codes "unpack")) story_rule) packed_rule
+
+-- the same with `OUT --force`
+abbrev pub unpack_app : App
+unpack_app = with_rule (with_rule naming_app out_rule) force_rule
+
 -- the program, before its commands: its words don't begin with its name, and one of them is a command
 abbrev pub bare_app : App
 bare_app =
@@ -154,11 +170,11 @@ playing_app = with_subcommand (with_subcommand (with_subcommand certifying_app s
 
 -- the program
 abbrev pub zpc_app : App
-zpc_app = with_subcommand playing_app explain_app.top
+zpc_app = with_subcommand (with_subcommand playing_app explain_app.top) unpack_app.top
 
 -- the name of one of its commands
 abbrev pub IsCommand : Text → Type 0
-IsCommand name = (name ≡ codes "list") ⊎ (name ≡ codes "find") ⊎ (name ≡ codes "check") ⊎ (name ≡ codes "show") ⊎ (name ≡ codes "play") ⊎ (name ≡ codes "info") ⊎ (name ≡ codes "explain")
+IsCommand name = (name ≡ codes "list") ⊎ (name ≡ codes "find") ⊎ (name ≡ codes "check") ⊎ (name ≡ codes "show") ⊎ (name ≡ codes "play") ⊎ (name ≡ codes "info") ⊎ (name ≡ codes "explain") ⊎ (name ≡ codes "unpack")
 
 -- the number that a text says in decimal digits, with or without a plus before them, where it has at most so many bits; else 0
 abbrev pub number_in : ℕ → Text → ℕ
@@ -260,6 +276,14 @@ save_of rows = first_of (codes "save") rows
 abbrev pub code_of : List Row → Option Text
 code_of rows = first_of (codes "CODE") rows
 
+-- the name of the file that has a save among the matches of `unpack`; without one clap makes no matches
+abbrev pub packed_of : List Row → Text
+packed_of rows = unwrap_or (first_of (codes "SAVE") rows) []
+
+-- and of the one that the plain save goes to
+abbrev pub out_of : List Row → Text
+out_of rows = unwrap_or (first_of (codes "OUT") rows) []
+
 -- what is asked for, by the names of files
 pub data Request : Type 0 where
   ListStory : (story : Text) (certificate : Option Text) (json : Bool) → Request
@@ -272,6 +296,7 @@ pub data Request : Type 0 where
   Play : (story : Text) (certificate : Option Text) (seed budget : ℕ) (status : Bool) (save : Option Text) (tell force : Bool) → Request
   Info : (story : Text) (json : Bool) → Request
   Explain : (code : Option Text) (json : Bool) → Request
+  Unpack : (story save out : Text) (force : Bool) → Request
 
 -- what is asked of `find` beside its files
 abbrev pub AsksToFind : List Row → Option ℕ → Bool → Bool → Bool → Bool → Type 0
@@ -298,6 +323,8 @@ Asks matches (Play story certificate seed budget status save tell force) =
     × (status ≡ is_status_asked matches.1) × (save ≡ save_of matches.1) × (tell ≡ is_tell_asked matches.1) × (force ≡ is_force_asked matches.1)
 Asks matches (Info story json) = (matches.0 ≡ codes "info") × (story ≡ story_of matches.1) × (json ≡ is_json_asked matches.1)
 Asks matches (Explain code json) = (matches.0 ≡ codes "explain") × (code ≡ code_of matches.1) × (json ≡ is_json_asked matches.1)
+Asks matches (Unpack story save out force) =
+    (matches.0 ≡ codes "unpack") × (story ≡ story_of matches.1) × (save ≡ packed_of matches.1) × (out ≡ out_of matches.1) × (force ≡ is_force_asked matches.1)
 
 -- what a command asks for
 abbrev pub request_of : Command → Request
@@ -311,6 +338,7 @@ request_of (commands.Show story certificate address) = Show story.now certificat
 request_of (commands.Play story certificate seed budget status save tell force) = Play story.now (option_map (λ c. c.now) certificate) seed budget status (option_map (λ f. f.now) save) tell force
 request_of (commands.Info story json) = Info story.now json
 request_of (commands.Explain code json) = Explain (option_map (λ c. c.now) code) json
+request_of (commands.Unpack story save out force) = Unpack story.now save.now out.now force
 
 -- the command is the one that clap's matches name
 abbrev pub IsReadFrom : Text × List Row → Command → Type 0

@@ -1,6 +1,7 @@
 //! The command line: what the words after the program's name ask for.
 #![tactic(auto)]
 
+mod commands;
 mod words;
 
 pub use words::{Command, command_of, read_words};

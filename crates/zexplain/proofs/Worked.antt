@@ -7,7 +7,7 @@ use Rattle.zexplain.specs.Short.{all_codes, codes_of_certificates, codes_of_play
 use Rattle.zexplain.specs.Texts.{explanation_of}
 use Rattle.zexplain.specs.declared.certificates.TheConstants.{FINDING, FITTING, READING}
 use Rattle.zexplain.specs.declared.faults.TheConstants.{FAULTS}
-use Rattle.zexplain.specs.declared.playing.TheConstants.{KEEPING, PLAYING, SAVING}
+use Rattle.zexplain.specs.declared.playing.TheConstants.{KEEPING, PLAYING, SAVING, UNPACKING}
 use Rattle.zexplain.specs.declared.rules.TheConstants.{RULES}
 use Rattle.zexplain.specs.declared.stories.TheConstants.{DECODING, LISTING, LOADING, TEXTS}
 
@@ -19,9 +19,9 @@ beginning count code = option_map (take count) (explanation_of code)
 first_of_each :
     (beginning 3 (codes "L1") ≡ Some (codes "L1:")) × (beginning 3 (codes "J1") ≡ Some (codes "J1:")) × (beginning 3 (codes "E1") ≡ Some (codes "E1:")) × (beginning 3 (codes "U1") ≡ Some (codes "U1:"))
     × (beginning 3 (codes "K1") ≡ Some (codes "K1:")) × (beginning 3 (codes "S1") ≡ Some (codes "S1:")) × (beginning 3 (codes "G1") ≡ Some (codes "G1:")) × (beginning 3 (codes "I1") ≡ Some (codes "I1:"))
-    × (beginning 3 (codes "F1") ≡ Some (codes "F1:")) × (beginning 3 (codes "Q1") ≡ Some (codes "Q1:")) × (beginning 3 (codes "P1") ≡ Some (codes "P1:")) × (beginning 3 (codes "N1") ≡ Some (codes "N1:"))
+    × (beginning 3 (codes "F1") ≡ Some (codes "F1:")) × (beginning 3 (codes "Q1") ≡ Some (codes "Q1:")) × (beginning 3 (codes "C1") ≡ Some (codes "C1:")) × (beginning 3 (codes "P1") ≡ Some (codes "P1:")) × (beginning 3 (codes "N1") ≡ Some (codes "N1:"))
 unfolding beginning
-first_of_each = (refl, refl, refl, refl, refl, refl, refl, refl, refl, refl, refl, refl)
+first_of_each = (refl, refl, refl, refl, refl, refl, refl, refl, refl, refl, refl, refl, refl)
 
 -- a code isn't told by its beginning
 longer : (beginning 4 (codes "L11") ≡ Some (codes "L11:")) × (beginning 4 (codes "I18") ≡ Some (codes "I18:")) × (beginning 4 (codes "F16") ≡ Some (codes "F16:")) × (beginning 3 (codes "K9") ≡ Some (codes "K9:"))
@@ -31,8 +31,8 @@ longer = (refl, refl, refl, refl)
 -- what is no code has no text
 none :
     (explanation_of [] ≡ None) × (explanation_of (codes "L") ≡ None) × (explanation_of (codes "L0") ≡ None) × (explanation_of (codes "L13") ≡ None) × (explanation_of (codes "I05") ≡ None)
-    × (explanation_of (codes "I19") ≡ None) × (explanation_of (codes "X1") ≡ None) × (explanation_of (codes "N3") ≡ None) × (explanation_of (codes "K10") ≡ None)
-none = (refl, refl, refl, refl, refl, refl, refl, refl, refl)
+    × (explanation_of (codes "I19") ≡ None) × (explanation_of (codes "X1") ≡ None) × (explanation_of (codes "N3") ≡ None) × (explanation_of (codes "C10") ≡ None) × (explanation_of (codes "K10") ≡ None)
+none = (refl, refl, refl, refl, refl, refl, refl, refl, refl, refl)
 
 -- a small letter in front is read as the capital, and nothing else is
 small :
@@ -59,7 +59,7 @@ certificates : list_all (λ e. is_headed e.0.now e.1.now) (READING ++ FITTING ++
 unfolding is_headed
 certificates = refl
 
-play : list_all (λ e. is_headed e.0.now e.1.now) (FAULTS ++ SAVING ++ PLAYING ++ KEEPING) ≡ true
+play : list_all (λ e. is_headed e.0.now e.1.now) (FAULTS ++ SAVING ++ UNPACKING ++ PLAYING ++ KEEPING) ≡ true
 unfolding is_headed
 play = refl
 
@@ -68,6 +68,6 @@ all_begin : take 62 all_codes ≡ codes "L1: the file is too short to be a story
 unfolding codes_of_stories codes_of_certificates codes_of_play
 all_begin = refl
 
-all_are : count_by (λ byte. byte == 10) all_codes ≡ 94
+all_are : count_by (λ byte. byte == 10) all_codes ≡ 103
 unfolding codes_of_stories codes_of_certificates codes_of_play
 all_are = refl

@@ -5,7 +5,7 @@ use Rattle.std.specs.Io.BufRead.{strip_last}
 use Rattle.zexplain.specs.Texts.{explanation_of}
 use Rattle.zexplain.specs.declared.certificates.TheConstants.{FINDING, FITTING, READING}
 use Rattle.zexplain.specs.declared.faults.TheConstants.{FAULTS}
-use Rattle.zexplain.specs.declared.playing.TheConstants.{KEEPING, PLAYING, SAVING}
+use Rattle.zexplain.specs.declared.playing.TheConstants.{KEEPING, PLAYING, SAVING, UNPACKING}
 use Rattle.zexplain.specs.declared.rules.TheConstants.{RULES}
 use Rattle.zexplain.specs.declared.stories.TheConstants.{DECODING, LISTING, LOADING, TEXTS}
 
@@ -32,7 +32,7 @@ unfoldable pub codes_of_certificates : List ℕ
 codes_of_certificates = flat_map (λ e. heading e.1.now) READING ++ flat_map (λ e. heading e.1.now) FITTING ++ flat_map (λ e. heading e.1.now) FINDING ++ flat_map (λ e. heading e.1.now) RULES
 
 unfoldable pub codes_of_play : List ℕ
-codes_of_play = flat_map (λ e. heading e.1.now) FAULTS ++ flat_map (λ e. heading e.1.now) SAVING ++ flat_map (λ e. heading e.1.now) PLAYING ++ flat_map (λ e. heading e.1.now) KEEPING
+codes_of_play = flat_map (λ e. heading e.1.now) FAULTS ++ flat_map (λ e. heading e.1.now) SAVING ++ flat_map (λ e. heading e.1.now) UNPACKING ++ flat_map (λ e. heading e.1.now) PLAYING ++ flat_map (λ e. heading e.1.now) KEEPING
 
 -- every code in a few words, each on a line of its own
 abbrev pub all_codes : List ℕ

@@ -4,7 +4,7 @@ use Rattle.std.specs.Char.{to_ascii_uppercase}
 use Rattle.std.specs.Str.{bytes_eq}
 use Rattle.zexplain.specs.declared.certificates.TheConstants.{FINDING, FITTING, READING}
 use Rattle.zexplain.specs.declared.faults.TheConstants.{FAULTS}
-use Rattle.zexplain.specs.declared.playing.TheConstants.{KEEPING, PLAYING, SAVING}
+use Rattle.zexplain.specs.declared.playing.TheConstants.{KEEPING, PLAYING, SAVING, UNPACKING}
 use Rattle.zexplain.specs.declared.rules.TheConstants.{RULES}
 use Rattle.zexplain.specs.declared.stories.TheConstants.{DECODING, LISTING, LOADING, TEXTS}
 
@@ -52,6 +52,10 @@ fault_text code = text_among (map (λ entry. (entry.0.now, entry.1.now)) FAULTS)
 abbrev pub saving_text : List ℕ → Option (List ℕ)
 saving_text code = text_among (map (λ entry. (entry.0.now, entry.1.now)) SAVING) code
 
+-- a save of another interpreter that isn't unpacked
+abbrev pub unpacking_text : List ℕ → Option (List ℕ)
+unpacking_text code = text_among (map (λ entry. (entry.0.now, entry.1.now)) UNPACKING) code
+
 -- what breaks a play off
 abbrev pub playing_text : List ℕ → Option (List ℕ)
 playing_text code = text_among (map (λ entry. (entry.0.now, entry.1.now)) PLAYING) code
@@ -72,7 +76,7 @@ abbrev pub of_certificates : List ℕ → Option (List ℕ)
 of_certificates code = or_else (or_else (or_else (reading_text code) (fitting_text code)) (finding_text code)) (rule_text code)
 
 abbrev pub of_play : List ℕ → Option (List ℕ)
-of_play code = or_else (or_else (or_else (fault_text code) (saving_text code)) (playing_text code)) (keeping_text code)
+of_play code = or_else (or_else (or_else (or_else (fault_text code) (saving_text code)) (unpacking_text code)) (playing_text code)) (keeping_text code)
 
 -- the text of a code, if it is one
 abbrev pub text_of : List ℕ → Option (List ℕ)

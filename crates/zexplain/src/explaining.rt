@@ -2,11 +2,11 @@
 
 ghost use Rattle.std.specs.Prelude.{◌≡◌, find, map, option_map};
 ghost use Rattle.std.specs.Str.{bytes_eq};
-ghost use Rattle.zexplain.specs.Texts.{explanation_of, with_capital, of_certificates, of_play, of_stories, text_among, loading_text, decoding_text, decoded_text, listing_text, reading_text, fitting_text, finding_text, rule_text, fault_text, saving_text, playing_text, keeping_text};
+ghost use Rattle.zexplain.specs.Texts.{explanation_of, with_capital, of_certificates, of_play, of_stories, text_among, loading_text, decoding_text, decoded_text, listing_text, reading_text, fitting_text, finding_text, rule_text, fault_text, saving_text, unpacking_text, playing_text, keeping_text};
 
 use crate::certificates::{FINDING, FITTING, READING};
 use crate::faults::FAULTS;
-use crate::playing::{KEEPING, PLAYING, SAVING};
+use crate::playing::{KEEPING, PLAYING, SAVING, UNPACKING};
 use crate::rules::RULES;
 use crate::stories::{DECODING, LISTING, LOADING, TEXTS};
 
@@ -41,6 +41,7 @@ fn of_play(code: &str) -> Option<&'static str>
 {
     fault(code)
         .or(saving(code))
+        .or(unpacking(code))
         .or(playing(code))
         .or(keeping(code))
 }
@@ -103,6 +104,12 @@ fn saving(code: &str) -> Option<&'static str>
     ensures { option_map (λ text. text.now) result ≡ saving_text (with_capital code.now) }
 {
     text_among(&SAVING, code)
+}
+
+fn unpacking(code: &str) -> Option<&'static str>
+    ensures { option_map (λ text. text.now) result ≡ unpacking_text (with_capital code.now) }
+{
+    text_among(&UNPACKING, code)
 }
 
 fn playing(code: &str) -> Option<&'static str>

@@ -12,7 +12,7 @@ mod stories;
 pub use certificates::{FINDING, FITTING, READING};
 pub use explaining::explanation;
 pub use faults::FAULTS;
-pub use playing::{KEEPING, PLAYING, SAVING};
+pub use playing::{KEEPING, PLAYING, SAVING, UNPACKING};
 pub use rules::RULES;
 pub use short::{all_codes, in_short};
 pub use stories::{DECODING, LISTING, LOADING, TEXTS};

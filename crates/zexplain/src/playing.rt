@@ -34,7 +34,7 @@ Do: save again; the program that wrote it doesn't keep to the standard.
         "Q5",
         "Q5: the save's memory is compressed.
 Rule: memory is read uncompressed, as UMem, and not as CMem (Q 3; own). The story is told that restoring failed.
-Do: go on in the program that wrote it, or let that write UMem, if it can. This program writes UMem.
+Do: rewrite it with unpack as one that this program restores. This program writes UMem.
 ",
     ),
     (
@@ -78,6 +78,73 @@ Do: restore it without the certificate, where everything is tested; a save that 
         "Q11: memory was refused while a save was restored.
 Rule: it is said as \"failed: memory\" (own).
 Do: give the program more memory, and try again.
+",
+    ),
+];
+
+/// A save of another interpreter that isn't unpacked.
+pub const UNPACKING: [(&str, &str); 9] = [
+    (
+        "C1",
+        "C1: the file is no save.
+Rule: a save is a FORM of the kind IFZS (Q 8). Nothing is written.
+Do: name the file of a save, as the program wrote it that the story was played in.
+",
+    ),
+    (
+        "C2",
+        "C2: the save is cut off, or its lengths are wrong.
+Rule: each chunk is as long as it says, and an odd one has a pad byte that is 0 (Q 8). Nothing is written.
+Do: get the save again.
+",
+    ),
+    (
+        "C3",
+        "C3: the save lacks a part.
+Rule: there are IFhd, memory and Stks, and IFhd comes first (Q 5). Nothing is written.
+Do: save again; the program that wrote it doesn't keep to the standard.
+",
+    ),
+    (
+        "C4",
+        "C4: the save has a part twice.
+Rule: there is one IFhd, one memory and one Stks (Q 5; own). Nothing is written.
+Do: save again; the program that wrote it doesn't keep to the standard.
+",
+    ),
+    (
+        "C5",
+        "C5: the save's memory isn't compressed.
+Rule: what is unpacked is CMem (Q 3; own), and this save has UMem, from which play can go on as it is. Nothing is written.
+Do: restore it with play --save.
+",
+    ),
+    (
+        "C6",
+        "C6: the save is of another story.
+Rule: release, serial number and checksum are the story's (Q 5). Nothing is written.
+Do: name the very story that the save was made in.
+",
+    ),
+    (
+        "C7",
+        "C7: the save's memory ends within a run.
+Rule: behind a 0 in CMem stands how many more bytes are as in the story (Q 3). Nothing is written.
+Do: get the save again.
+",
+    ),
+    (
+        "C8",
+        "C8: the save's memory is too long.
+Rule: CMem stands for no more bytes than the story's dynamic memory has (Q 3). Nothing is written.
+Do: name the very story that the save was made in.
+",
+    ),
+    (
+        "C9",
+        "C9: the save's routines aren't well formed.
+Rule: Stks has a first frame and at most 4,096 above it, each whole (Q 4). Nothing is written.
+Do: save again, with fewer routines waiting.
 ",
     ),
 ];

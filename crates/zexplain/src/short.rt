@@ -7,7 +7,7 @@ ghost use Rattle.zexplain.specs.Short.{all_codes, codes_of_certificates, codes_o
 use crate::certificates::{FINDING, FITTING, READING};
 use crate::explaining::explanation;
 use crate::faults::FAULTS;
-use crate::playing::{KEEPING, PLAYING, SAVING};
+use crate::playing::{KEEPING, PLAYING, SAVING, UNPACKING};
 use crate::rules::RULES;
 use crate::stories::{DECODING, LISTING, LOADING, TEXTS};
 use std::alloc::{AllocError, Global};
@@ -21,7 +21,7 @@ pub fn in_short(code: &str) -> Option<&'static str>
 }
 
 /// The first line of what each code means, as `I5: an operand that has to be an object may be none, most often 0.`, each with its end, in the
-/// order L, J, E, U, K, S, G, I, F, Q, P, N. Fails only for want of memory.
+/// order L, J, E, U, K, S, G, I, F, Q, C, P, N. Fails only for want of memory.
 pub fn all_codes(alloc: Global) -> Result<Vec<u8>, AllocError>
     ensures { IfOk result (λ text. text.items ≡ all_codes) }
 {
@@ -57,6 +57,7 @@ fn push_play(text: &mut Vec<u8>) -> Result<(), AllocError>
 {
     push_headings(&FAULTS, text)?;
     push_headings(&SAVING, text)?;
+    push_headings(&UNPACKING, text)?;
     push_headings(&PLAYING, text)?;
     push_headings(&KEEPING, text)?;
     Ok(())

@@ -39,8 +39,14 @@ returns-in-Some-subcommand_matches-5-clause-read c = rw (rows_named _ _ _ (c.in-
 pub returns-in-Some-subcommand_matches-5-clause-low : goal.returns-in-Some-subcommand_matches-5-clause-low
 returns-in-Some-subcommand_matches-5-clause-low c = low_if_read (subcommand_rows_of c.args.matches.now) c.info_of.result (returns-in-Some-subcommand_matches-5-clause-read c)
 
+pub returns-in-Some-subcommand_matches-6-clause-read : goal.returns-in-Some-subcommand_matches-6-clause-read
+returns-in-Some-subcommand_matches-6-clause-read c = rw (rows_named _ _ _ (c.in-Some-subcommand_matches-6.ensures.found.0 refl) c.in-Some-subcommand_matches-6.ensures.rows) c.explain_of.ensures
+
+pub returns-in-Some-subcommand_matches-6-clause-low : goal.returns-in-Some-subcommand_matches-6-clause-low
+returns-in-Some-subcommand_matches-6-clause-low c = low_if_read (subcommand_rows_of c.args.matches.now) c.explain_of.result (returns-in-Some-subcommand_matches-6-clause-read c)
+
 pub returns-clause-read : goal.returns-clause-read
-returns-clause-read c = rw (rows_named _ _ _ (c.in-Some-subcommand_matches-6.ensures.found.0 refl) c.in-Some-subcommand_matches-6.ensures.rows) c.explain_of.ensures
+returns-clause-read c = rw (rows_named _ _ _ (c.in-Some-subcommand_matches-7.ensures.found.0 refl) c.in-Some-subcommand_matches-7.ensures.rows) c.unpack_of.ensures
 
 pub returns-clause-low : goal.returns-clause-low
-returns-clause-low c = low_if_read (subcommand_rows_of c.args.matches.now) c.explain_of.result (returns-clause-read c)
+returns-clause-low c = low_if_read (subcommand_rows_of c.args.matches.now) c.unpack_of.result (returns-clause-read c)
