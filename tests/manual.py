@@ -145,7 +145,7 @@ def page(text_of_help, version):
 
 
 def written():
-    version = re.search(r'(?m)^const VERSION: &str = "([^"]+)";', text_of("crates/zcommand/src/words.rt"))[1]
+    version = re.search(r'(?m)^const VERSION: &str = "([^"]+)";', text_of("crates/zcommand/src/commands.rt"))[1]
     return page(stored, version)
 
 

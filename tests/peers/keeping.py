@@ -1,7 +1,7 @@
 """Saves that go from the program to its peers, and from them to the program: the play goes on as if it had gone on by itself.
 
-Each peer writes compressed memory, which zpc refuses (Q5). So its save is given to zpc twice: as it is, and with that memory unpacked (Q 3) and
-nothing else changed.
+Each peer writes compressed memory, which zpc refuses (Q5). So its save is given to zpc twice: as it is, and rewritten by `zpc unpack`, which has to
+come to what is worked out here (Q 3).
 """
 import os
 import random
@@ -77,8 +77,10 @@ def from_peer(program, peer, room, parting, wanted):
         return
     answer = gone_on(program, room, name, parting)
     yield peer.name, f"saves: its own, refused, {parting.number}", None if answer.errors.startswith(b"save refused: Q5\n") else repr(answer)
-    with open(path, "wb") as file:
-        file.write(unpacked(kept, parting.story))
+    rewritten = program.run_in(room, ["unpack", "story", name, name])
+    with open(path, "rb") as file:
+        same = file.read() == unpacked(kept, parting.story)
+    yield peer.name, f"saves: its own, rewritten, {parting.number}", None if same and rewritten.status == 0 else repr(rewritten)
     yield peer.name, f"saves: its own, unpacked, {parting.number}", goes_on()
 
 
@@ -97,7 +99,8 @@ def chunks(form):
 
 
 def unpacked(form, story):
-    """The same save with memory as it is: a zero and a count stand for zeros, and what is left is what differs from the story (Q 3)."""
+    """The same save with memory as it is, in the order in which zpc writes it: a zero and a count stand for zeros, and what is left is what differs
+    from the story (Q 3)."""
     def memory(packed):
         dynamic, at, differs = struct.unpack(">H", story[14:16])[0], 0, bytearray()
         while at < len(packed):
@@ -105,6 +108,7 @@ def unpacked(form, story):
             at += 2 if packed[at] == 0 else 1
         return bytes(a ^ b for a, b in zip(story[:dynamic], differs.ljust(dynamic, b"\0")))
 
-    made = [(b"UMem", memory(data)) if name == b"CMem" else (name, data) for name, data in chunks(form)]
+    data = dict(chunks(form))
+    made = [(b"IFhd", data[b"IFhd"]), (b"UMem", memory(data[b"CMem"])), (b"Stks", data[b"Stks"])]
     inside = b"".join(name + struct.pack(">I", len(data)) + data + b"\0" * (len(data) % 2) for name, data in made)
     return b"FORM" + struct.pack(">I", len(inside) + 4) + b"IFZS" + inside

@@ -13,7 +13,8 @@ import tempfile
 from lists import NAMINGS
 from program import Answer, Count, Program
 from samples import HELLO, QUIT, certificate, changed, printed, story, with_objects
-from saves import SAVES, SAVES_LISTED, THAT_SAVE
+from saves import RESTORES, SAVES, SAVES_LISTED, THAT_SAVE
+from unpacking import HIS
 
 HERE = os.path.dirname(os.path.abspath(__file__))
 
@@ -156,11 +157,10 @@ def see_saves(devices, count, words):
         count.is_answer(f"{' '.join(play)} with call {number} failing, {call}, calls {made[number - 1:]}", answer, wanted)
 
 
-def see_found(devices, count, story):
-    """Has each call fail of a search whose certificate is kept in a file."""
-    words, files = ["find", "story", "kept"], {"story": story}
+def see_kept(devices, count, words, files, said):
+    """Has each call fail of a command whose answer is kept in a file, and that says this."""
     ample, calls = devices.run(words, files, {})
-    count.is_answer(" ".join(words), ample, Answer(0, b"found\n", b""))
+    count.is_answer(" ".join(words), ample, Answer(0, said, b""))
     count.see(is_through(calls), f"{' '.join(words)}: the calls were {calls}")
     for number, call in enumerate(calls, 1):
         answer, made = devices.run(words, files, {"FAIL": number, "ERROR": errno.EIO})
@@ -187,7 +187,8 @@ def main():
         see_prompt(devices, count)
         see_writers(devices, count)
         see_loose(devices, count)
-        see_found(devices, count, made)
+        see_kept(devices, count, ["find", "story", "kept"], {"story": made}, b"found\n")
+        see_kept(devices, count, ["unpack", "story", "his", "kept"], {"story": RESTORES, "his": HIS}, b"")
         see_saves(devices, count, ["story"])
         see_saves(devices, count, ["story", "certificate"])
         # a byte a call: the text is whole, and each beginning of it is met

@@ -31,6 +31,7 @@ from samples import CODE, HELLO, NEW_LINE, NOP, QUIT, certificate, changed, inte
 from showing import see_showing
 from stated import see_stated
 from texts import see_texts
+from unpacking import see_unpacking
 from words import see_words
 
 HERE = os.path.dirname(os.path.abspath(__file__))
@@ -129,6 +130,8 @@ WORDS = [
     ("help of info, as a command", ["help", "info"], done(help_text("info.txt"))),
     ("help of explain", ["explain", "--help"], done(help_text("explain.txt"))),
     ("help of explain, as a command", ["help", "explain"], done(help_text("explain.txt"))),
+    ("help of unpack", ["unpack", "--help"], done(help_text("unpack.txt"))),
+    ("help of unpack, as a command", ["help", "unpack"], done(help_text("unpack.txt"))),
     ("version", ["--version"], done(b"zpc 0.1.0\n")),
     ("version, short", ["-V"], done(b"zpc 0.1.0\n")),
     ("no words", [], Answer(2, b"", help_text("no_words.txt"))),
@@ -137,6 +140,7 @@ WORDS = [
     ("no story to list", ["list"], Answer(2, b"", help_text("no_story_to_list.txt"))),
     ("no file to find one of", ["find"], Answer(2, b"", help_text("no_file_to_check.txt").replace(b"check", b"find"))),
     ("an empty name for a certificate", ["find", "story", "--output", ""], Answer(2, b"", help_text("empty_certificate.txt"))),
+    ("no save to unpack", ["unpack", "story"], Answer(2, b"", help_text("no_save_to_unpack.txt"))),
     ("no certificate to show", ["show", "story"], Answer(2, b"", help_text("no_certificate_to_show.txt"))),
     ("no story to tell of", ["info"], Answer(2, b"", help_text("no_story_to_list.txt").replace(b"list <STORY> [CERT]", b"info <STORY>"))),
     ("a code that there isn't", ["explain", "I19"], Answer(2, b"", help_text("unknown_code.txt"))),
@@ -459,6 +463,7 @@ def main():
     see_stated(program, count)
     see_many(program, count, help_text("no_file_to_check.txt"), help_text("one_for_many.txt"))
     see_words(program, count)
+    see_unpacking(program, count)
     see_asides(program, count)
     see_finding(program, count)
     see_dear(program, count)

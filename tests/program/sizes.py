@@ -20,8 +20,9 @@ from marks import ANY
 from plays import PRINT_TOP, PUSH, ended, placed
 from program import Answer, Count, Program
 from samples import CODE, DICTIONARY, NEW_LINE, NOP, QUIT, STATIC, certificate, changed, interval, letter, printed, story, text, word
-from saves import RESTORE, SAVE
+from saves import FIRST_FRAME, RESTORE, SAVE, chunk
 from stated import stated
+from unpacking import ways
 
 LONGEST = 131072
 
@@ -405,6 +406,25 @@ def largest_save(program, count):
         count.see(length == 12 + 22 + 8 + dynamic + 8 + 8, f"a save of {dynamic} bytes: {length}")
 
 
+def packed_saves(program, count):
+    """Saves of as much dynamic memory, of which each byte is another, within as many routines as may wait, packed and unpacked."""
+    made = story(RESTORE + SAVE + QUIT, room=64700)
+    dynamic = STATIC + 64700
+    frames = FIRST_FRAME + MOST * (b"\0\3\x2e\x0f\0\0" + word(100) + bytes(230))
+    head = made[2:4] + made[18:24] + made[28:30] + b"\0\3\x25"
+    for what, memory in (("all bytes changed", bytes(it ^ 255 for it in made[:dynamic])), ("no byte changed", made[:dynamic])):
+        inside = b"IFZS" + chunk(b"IFhd", head) + chunk(b"UMem", memory) + chunk(b"Stks", frames)
+        save = b"FORM" + struct.pack(">I", len(inside)) + inside
+        for how, packed in ways(save, made):
+            with tempfile.TemporaryDirectory(prefix="sizes-") as room:
+                for name, contents in (("story", made), ("his", packed)):
+                    with open(os.path.join(room, name), "wb") as file:
+                        file.write(contents)
+                count.is_answer(f"{what}, {how}, unpacked", program.run_in(room, ["unpack", "story", "his", "out"]), Answer(0, b"", b""))
+                with open(os.path.join(room, "out"), "rb") as file:
+                    count.see(file.read() == save, f"{what}, {how}: it isn't the save")
+
+
 def tallest(program, count):
     """The tallest stack of the checked machine, and one word more."""
     push, back = PUSH + b"\x01", b"\x8c\xff\xfc"
@@ -483,6 +503,7 @@ GROWTH = [
     ("zstate opening", "bytes of memory", longest),
     ("zstate resumed", "frames with their locals and stacks", deep_saves),
     ("zquetzal write", "frames and memory", deep_saves),
+    ("zunpack unpack", "frames and memory", packed_saves),
     ("zfault new", "bytes and status lines of a turn", status_lines),
     ("zfault bounded", "bytes and status lines of a turn, up to its bound", much_in_a_turn),
     ("zfault from_slice", "letters of a name", status_lines),

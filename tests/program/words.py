@@ -4,7 +4,9 @@ import pty
 import subprocess
 import tempfile
 
-from samples import HELLO, NOP, QUIT, certificate, story
+from samples import CODE, HELLO, NOP, QUIT, certificate, story
+from saves import RESTORES, saved
+from unpacking import HIS, packed
 
 SAMPLE = story(HELLO + QUIT)
 # `set_window` isn't played.
@@ -14,7 +16,8 @@ STRAY = story(b"\xd0\x0f\xff\xff\xff\xff\x10" + QUIT)
 
 FILES = {
     "a.z3": SAMPLE, "broken.cert": certificate(SAMPLE, [0x324]), "other.cert": certificate(SAMPLE, [0x324, 0x329], release=2), "short.z3": b"", "window.z3": WINDOW, "text": b"letter",
-    "stray.z3": STRAY,
+    "stray.z3": STRAY, "his.qzl": packed(saved(SAMPLE, CODE), SAMPLE),
+    "restores.z3": RESTORES, "other.qzl": HIS,
 }
 
 # ---- the words, the status, and what is said on the terminal
@@ -32,7 +35,11 @@ RUNS = [
     (["find", "--strict", "window.z3", "w"], 1, "refused: G1 at 00325: no instruction stands there\r\nnot found"),
     (["find", "a.z3", "text"], 1, "refused: N1: the file that a certificate is to be kept in holds something else"),
     (["find", "a.z3", "none/a.cert"], 4, "failed: file: cannot write 'none/a.cert': no such folder"),
+    (["unpack", "a.z3", "a.z3", "my.qzl"], 1, "refused: C1: the file is no save"),
+    (["unpack", "a.z3", "none.qzl", "my.qzl"], 4, "failed: file: cannot read 'none.qzl': no such file"),
+    (["unpack", "a.z3", "his.qzl", "none/my.qzl"], 4, "failed: file: cannot write 'none/my.qzl': no such folder"),
     (["play", "a.z3"], 0, ""),
+    (["play", "--save", "other.qzl", "restores.z3"], 0, "save refused: Q5"),
     (["play", "stray.z3"], 3, "fault: F12 at 00324: a load from outside the story"),
     (["play", "--budget", "0", "a.z3"], 0, "end: budget"),
 ]

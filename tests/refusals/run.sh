@@ -21,13 +21,16 @@ for name, contents in NAMINGS[0][1].items():
     with open(f"{sys.argv[1]}/{name}.lists", "wb") as file:
         file.write(contents)
 ' "$work") || exit 1
-# A story that saves, one that restores, a save of that and one of more frames than there are words for, and their certificates.
+# A story that saves, one that restores, a save of that, one of more frames than there are words for, one of another interpreter, and their
+# certificates.
 (cd "$here/../program" && python3 -c '
 import sys
 import saves
+import unpacking
 for name, contents in (
     ("saves", saves.QUITS), ("saves.cert", saves.QUITS_LISTED),
     ("restores", saves.RESTORES), ("restores.cert", saves.RESTORES_LISTED), ("kept", saves.ITS_SAVE), ("deep", saves.DEEP_SAVE),
+    ("packed", unpacking.packed(saves.DEEP_SAVE, saves.RESTORES)),
 ):
     with open(f"{sys.argv[1]}/{name}", "wb") as file:
         file.write(contents)
@@ -130,6 +133,8 @@ refuse_each list "$work/story.lists" "$work/certificate.lists"
 refuse_each check "$work/story.lists" "$work/certificate.lists"
 refuse_each show "$work/story.lists" "$work/certificate.lists"
 refuse_each play "$work/story.lists" "$work/certificate.lists"
+refuse_each unpack "$work/restores" "$work/packed" "$work/plain"
+refuse_each unpack "$work/restores" "$work/kept" "$work/plain"
 refuse_each play --save "$work/new" "$work/saves"
 refuse_each play --save "$work/new" "$work/saves" "$work/saves.cert"
 unrestored=0

@@ -4,7 +4,7 @@ use Rattle.std.specs.Prelude.{IfOk, IfErr, IfSome, IsErr, IsErrAnd, IsErrOf, Res
 use Rattle.zstory.specs.LoadedStory.{LoadedStory}
 use Rattle.zperform.specs.declared.outcome.Failure.TheVariants.{File, Read, Write, Memory}
 use Rattle.zperform.specs.declared.outcome.Problem.{Problem}
-use Rattle.zperform.specs.declared.outcome.Problem.TheVariants.{Refused, Unreadable, BreaksStory, BreaksInstruction, Unlisted, Unfound, Occupied, Failed}
+use Rattle.zperform.specs.declared.outcome.Problem.TheVariants.{Refused, Unreadable, BreaksStory, BreaksInstruction, Unlisted, Unfound, Occupied, Failed, Packed}
 use Rattle.zstory.specs.Refusal.{HasNone, IsCause}
 use Rattle.zstory.specs.declared.load_error.LoadError.TheVariants.{TooShort}
 use Rattle.zdomain.specs.Domain.{SetOperations}
@@ -75,6 +75,7 @@ module _ {V : Type 0} (o : SetOperations V) (format : Format V) (story_known cer
   no_story_refuses (Unlisted error) h = absurd h
   no_story_refuses (Unfound error broken) h = absurd h
   no_story_refuses (Occupied purpose) h = absurd h
+  no_story_refuses (Packed error) h = absurd h
   no_story_refuses (Failed File) h = tt
   no_story_refuses (Failed Read) h = absurd h
   no_story_refuses (Failed Write) h = absurd h
@@ -89,6 +90,7 @@ module _ {V : Type 0} (o : SetOperations V) (format : Format V) (story_known cer
   no_certificate_refuses story held (Unlisted error) h = absurd h
   no_certificate_refuses story held (Unfound error broken) h = absurd h
   no_certificate_refuses story held (Occupied purpose) h = absurd h
+  no_certificate_refuses story held (Packed error) h = absurd h
   no_certificate_refuses story held (Failed File) h = tt
   no_certificate_refuses story held (Failed Read) h = absurd h
   no_certificate_refuses story held (Failed Write) h = absurd h
@@ -168,6 +170,7 @@ module _ (known : Option (List ℕ)) (taken : List ℕ) (part : (file : List ℕ
   no_story (Unlisted error) h = absurd h
   no_story (Unfound error broken) h = absurd h
   no_story (Occupied purpose) h = absurd h
+  no_story (Packed error) h = absurd h
   no_story (Failed File) h = absurd h
   no_story (Failed Read) h = absurd h
   no_story (Failed Write) h = absurd h

@@ -13,7 +13,7 @@ use Rattle.zperform.specs.declared.accepting.AcceptedStory.{AcceptedStory}
 use Rattle.zperform.specs.declared.blame.Blame.{Blame}
 use Rattle.zperform.specs.declared.outcome.Failure.TheVariants.{File, Memory, Read, Write}
 use Rattle.zperform.specs.declared.outcome.Problem.{Problem}
-use Rattle.zperform.specs.declared.outcome.Problem.TheVariants.{Refused, Unreadable, BreaksStory, BreaksInstruction, Unlisted, Unfound, Occupied, Failed}
+use Rattle.zperform.specs.declared.outcome.Problem.TheVariants.{Refused, Unreadable, BreaksStory, BreaksInstruction, Unlisted, Unfound, Occupied, Failed, Packed}
 use Rattle.zperform.specs.declared.outcome.Outcome.{Outcome}
 use Rattle.zperform.specs.declared.outcome.Outcome.TheVariants.{Stopped}
 
@@ -36,6 +36,7 @@ wanted known (BreaksInstruction address rule) is some = absurd cc
 wanted known (Unlisted error) is some = absurd cc
 wanted known (Unfound error broken) is some = absurd cc
 wanted known (Occupied purpose) is some = absurd cc
+wanted known (Packed error) is some = absurd cc
 wanted known (Failed File) is some = absurd cc
 wanted known (Failed Read) is some = absurd cc
 wanted known (Failed Write) is some = absurd cc
@@ -54,6 +55,7 @@ uncounted old new blame (BreaksInstruction address rule) h still = h
 uncounted old new blame (Unlisted error) h still = h
 uncounted old new blame (Unfound error broken) h still = h
 uncounted old new blame (Occupied purpose) h still = h
+uncounted old new blame (Packed error) h still = h
 uncounted old new blame (Failed File) h still = absurd cc
 uncounted old new blame (Failed Read) h still = h
 uncounted old new blame (Failed Write) h still = h

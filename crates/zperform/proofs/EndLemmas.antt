@@ -11,7 +11,7 @@ use Rattle.zperform.specs.Finding.{FindEnds, IsNotFound}
 use Rattle.zperform.specs.declared.finding.Search.{Search}
 use Rattle.zperform.specs.declared.outcome.Failure.TheVariants.{File, Read, Write, Memory}
 use Rattle.zperform.specs.declared.outcome.Problem.{Problem}
-use Rattle.zperform.specs.declared.outcome.Problem.TheVariants.{Refused, Unreadable, BreaksStory, BreaksInstruction, Unlisted, Unfound, Occupied, Failed}
+use Rattle.zperform.specs.declared.outcome.Problem.TheVariants.{Refused, Unreadable, BreaksStory, BreaksInstruction, Unlisted, Unfound, Occupied, Failed, Packed}
 use Rattle.zperform.specs.declared.outcome.Outcome.{Outcome}
 use Rattle.zperform.specs.declared.outcome.Outcome.TheVariants.{Stopped}
 
@@ -36,6 +36,7 @@ stops begun IsWhy before (BreaksInstruction address rule) other why = (why, refl
 stops begun IsWhy before (Unlisted error) other why = (why, refl)
 stops begun IsWhy before (Unfound error broken) other why = (why, refl)
 stops begun IsWhy before (Occupied purpose) other why = (why, refl)
+stops begun IsWhy before (Packed error) other why = (why, refl)
 stops begun IsWhy before (Failed File) other why = (why, refl)
 stops begun IsWhy before (Failed Read) other why = (why, refl)
 stops begun IsWhy before (Failed Write) other why = absurd (other refl)

@@ -20,7 +20,7 @@ use Rattle.zperform.specs.Playing.{Holds, Reads}
 use Rattle.zperform.specs.Report.{problem_of_reading}
 use Rattle.zperform.specs.declared.outcome.Failure.TheVariants.{File, Read, Write, Memory}
 use Rattle.zperform.specs.declared.outcome.Problem.{Problem}
-use Rattle.zperform.specs.declared.outcome.Problem.TheVariants.{Refused, Unreadable, BreaksStory, BreaksInstruction, Unlisted, Unfound, Occupied, Failed}
+use Rattle.zperform.specs.declared.outcome.Problem.TheVariants.{Refused, Unreadable, BreaksStory, BreaksInstruction, Unlisted, Unfound, Occupied, Failed, Packed}
 use Rattle.zperform.proofs.AcceptLemmas.{for_value}
 use Rattle.zperform.proofs.StoryFiles.{digested_whole, reads}
 
@@ -67,6 +67,7 @@ module _ {V : Type 0} (format : Format V) (known : Option (List ℕ)) (story : L
   no_certificate_kept (Unlisted error) h = absurd h
   no_certificate_kept (Unfound error broken) h = absurd h
   no_certificate_kept (Occupied purpose) h = absurd h
+  no_certificate_kept (Packed error) h = absurd h
   no_certificate_kept (Failed File) h = tt
   no_certificate_kept (Failed Read) h = absurd h
   no_certificate_kept (Failed Write) h = absurd h
@@ -108,6 +109,7 @@ module _ {V : Type 0} (format : Format V) (known : Option (List ℕ)) (story : L
   stands (Err (Unlisted error)) h why = tt
   stands (Err (Unfound error broken)) h why = tt
   stands (Err (Occupied purpose)) h why = tt
+  stands (Err (Packed error)) h why = tt
   stands (Err (Failed File)) h why = tt
   stands (Err (Failed Read)) h why = absurd why
   stands (Err (Failed Write)) h why = absurd why
@@ -123,6 +125,7 @@ module _ {V : Type 0} (format : Format V) (known : Option (List ℕ)) (story : L
   handed (Err (Unlisted error)) why = absurd why
   handed (Err (Unfound error broken)) why = absurd why
   handed (Err (Occupied purpose)) why = absurd why
+  handed (Err (Packed error)) why = absurd why
   handed (Err (Failed File)) why = tt
   handed (Err (Failed Read)) why = absurd why
   handed (Err (Failed Write)) why = absurd why

@@ -14,6 +14,7 @@ mod EachLemmas
 mod VerdictLemmas
 mod SeekLemmas
 mod BesideLemmas
+mod UnpackLemmas
 mod Joined
 mod LineLemmas
 mod Worked
@@ -21,3 +22,4 @@ mod WorkedClaims
 mod WorkedMarks
 mod WorkedPlays
 mod WorkedShowing
+mod WorkedUnpacking

@@ -5,9 +5,9 @@ use Rattle.clap.specs.Words.{Row, Text, fault_of, subcommand_of}
 use Rattle.zplayer.specs.declared.end.End.{End}
 use Rattle.zplayer.specs.Outside.{Blames}
 use Rattle.zquetzal.specs.declared.error.SaveError.{SaveError}
-use Rattle.zcommand.specs.CommandLine.{Asks, Check, CheckEach, Explain, Find, FindEach, Info, ListStory, OneForMany, Play, Request, Show, zpc_app}
+use Rattle.zcommand.specs.CommandLine.{Asks, Check, CheckEach, Explain, Find, FindEach, Info, ListStory, OneForMany, Play, Request, Show, zpc_app, Unpack}
 use Rattle.zperform.specs.Devices.{Devices, FlushesUnless, Held, Seen, UsesUnless, seen, told}
-use Rattle.zperform.specs.Performing.{Begins, Explains, IsBlamed, IsToldOf, Performs, Reports, SaysFor, is_each, is_quiet, spared_in, written_by}
+use Rattle.zperform.specs.Performing.{Begins, Explains, IsBlamed, IsToldOf, Performs, Reports, SaysFor, is_each, is_quiet, spared_in, spoken, written_by}
 use Rattle.zperform.specs.declared.wording.Speech.{Speech}
 use Rattle.zperform.specs.Beside.{Aside, Unsought}
 use Rattle.zperform.specs.declared.outcome.Failure.TheVariants.{File, Read, Write}
@@ -60,15 +60,15 @@ module _ (words : List Text) (speech : Speech) (status : ℕ) (old new : Devices
     (writer : FlushesUnless (λ (s : Seen). s.failures) (λ (s : Seen). s.waits) old.writer new.writer (outcome ≡ Stopped (Failed Write)))
     (reader : Blames (outcome ≡ Stopped (Failed Read)) old.reader.failures new.reader.failures)
     (between : Seen) (reported : Reports speech new.files.blamed outcome status between new.errors) where
-  pub performs_request : (request : Request) (aside : Aside) (refusals : List SaveError) → SaysFor request aside refusals old.errors between → (is_each request ≡ false → UsesUnless (λ (f : Held). f.known) (λ (f : Held). f.failures) old.files new.files (spared_in request) (written_by request) (outcome ≡ Stopped (Failed File))) → (outcome ≡ Stopped (Failed File) → IsBlamed request old.files) → (outcome ≡ Stopped (Failed File) → IsToldOf request new.files.blamed)
-      → (is_quiet request ≡ true → new.reader ≡ old.reader) → Begins request old.files new.files old.reader.remaining aside refusals old.writer.contents new.writer.contents outcome → IsSomeAnd (subcommand_of zpc_app words) (λ matches. Asks matches request)
+  pub performs_request : (asked request : Request) → request ≡ spoken speech asked → (aside : Aside) (refusals : List SaveError) → SaysFor request aside refusals old.errors between → (is_each request ≡ false → UsesUnless (λ (f : Held). f.known) (λ (f : Held). f.failures) old.files new.files (spared_in request) (written_by request) (outcome ≡ Stopped (Failed File))) → (outcome ≡ Stopped (Failed File) → IsBlamed request old.files) → (outcome ≡ Stopped (Failed File) → IsToldOf request new.files.blamed)
+      → (is_quiet request ≡ true → new.reader ≡ old.reader) → Begins request old.files new.files old.reader.remaining aside refusals old.writer.contents new.writer.contents outcome → IsSomeAnd (subcommand_of zpc_app words) (λ matches. Asks matches asked)
       → Performs words speech status old new
-  performs_request request aside refusals told files could blamed unasked comes read = go (subcommand_of zpc_app words) refl read
+  performs_request asked request is_spoken aside refusals told files could blamed unasked comes read = go (subcommand_of zpc_app words) refl read
     where
-      go : (o : Option (Text × List Row)) → subcommand_of zpc_app words ≡ o → IsSomeAnd o (λ matches. Asks matches request) → Performs words speech status old new
+      go : (o : Option (Text × List Row)) → subcommand_of zpc_app words ≡ o → IsSomeAnd o (λ matches. Asks matches asked) → Performs words speech status old new
       go None e h = absurd h
       go (Some matches) e asks =
-          inl (record { matches = matches; named = e; request = request; asks = asks; outcome = outcome; comes = comes; writer = writer; files = files; could = could; blamed = blamed; reader = reader; unasked = unasked; aside = aside; refusals = refusals; between = between; told = told; reported = reported })
+          inl (record { matches = matches; named = e; asked = asked; asks = asks; request = request; is_spoken = is_spoken; outcome = outcome; comes = comes; writer = writer; files = files; could = could; blamed = blamed; reader = reader; unasked = unasked; aside = aside; refusals = refusals; between = between; told = told; reported = reported })
 
 -- where no certificate was looked for and no save was refused, nothing is said
 pub says_none : (request : Request) (errors : Seen) → SaysFor request Unsought [] errors errors
@@ -83,6 +83,7 @@ says_none (CheckEach stories json) errors = refl
 says_none (Show story certificate address) errors = refl
 says_none (Info story json) errors = refl
 says_none (Explain code json) errors = refl
+says_none (Unpack story save out force) errors = refl
 
 -- what is told of a source that wasn't asked
 pub told_same : {R : Type 0} (remaining : R → Option (List ℕ)) (failures : R → ℕ) (old new : R) → new ≡ old → told remaining failures new ≡ told remaining failures old

@@ -18,9 +18,9 @@ use Rattle.zplayer.specs.Outside.{Coming, words_from}
 use Rattle.zplayer.specs.World.{Kept, Store, World, world}
 use Rattle.zperform.specs.declared.outcome.Failure.TheVariants.{File, Read, Write, Memory}
 use Rattle.zperform.specs.declared.outcome.Problem.{Problem}
-use Rattle.zperform.specs.declared.outcome.Problem.TheVariants.{Refused, Unreadable, BreaksStory, BreaksInstruction, Unlisted, Unfound, Occupied, Failed}
+use Rattle.zperform.specs.declared.outcome.Problem.TheVariants.{Refused, Unreadable, BreaksStory, BreaksInstruction, Unlisted, Unfound, Occupied, Failed, Packed}
 use Rattle.zperform.specs.declared.outcome.Outcome.{Outcome}
-use Rattle.zperform.specs.declared.outcome.Outcome.TheVariants.{Listed, Found, Accepted, Through, Shown, NoAddress, Informed, Explained, NoSuchCode, OneForMany, Played, Stopped}
+use Rattle.zperform.specs.declared.outcome.Outcome.TheVariants.{Listed, Found, Accepted, Through, Shown, NoAddress, Informed, Explained, NoSuchCode, OneForMany, Played, Stopped, Unpacked}
 use Rattle.zperform.specs.Played.{Account, ComesOutOf}
 use Rattle.zperform.specs.Playing.{ComesTo, Holds, IsPlayed, IsRefused, IsUnloaded, Reads, StaysEmpty}
 use Rattle.zperform.specs.Report.{outcome_of, problem_of_load, problem_of_play}
@@ -65,6 +65,7 @@ module _ (known : Option (List ℕ)) (taken : List ℕ) (options : Options) (giv
   of_part NoAddress h = h
   of_part Informed h = h
   of_part Explained h = h
+  of_part Unpacked h = h
   of_part NoSuchCode h = h
   of_part Accepted h = h
   of_part (Through tally) h = h
@@ -75,6 +76,7 @@ module _ (known : Option (List ℕ)) (taken : List ℕ) (options : Options) (giv
   of_part (Stopped (Unlisted error)) h = h
   of_part (Stopped (Unfound error broken)) h = h
   of_part (Stopped (Occupied purpose)) h = h
+  of_part (Stopped (Packed error)) h = h
   of_part (Stopped (Failed File)) h = h
   of_part (Stopped (Failed Read)) h = played_along (Err errors.Read) h
   of_part (Stopped (Failed Write)) h = played_along (Err errors.Write) h
@@ -110,6 +112,7 @@ unloaded_comes file options given before (BreaksInstruction address rule) h = ab
 unloaded_comes file options given before (Unlisted error) h = absurd h
 unloaded_comes file options given before (Unfound error broken) h = absurd h
 unloaded_comes file options given before (Occupied purpose) h = absurd h
+unloaded_comes file options given before (Packed error) h = absurd h
 unloaded_comes file options given before (Failed File) h = absurd h
 unloaded_comes file options given before (Failed Read) h = absurd h
 unloaded_comes file options given before (Failed Write) h = absurd h

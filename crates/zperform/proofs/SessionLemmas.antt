@@ -20,7 +20,7 @@ use Rattle.zplayer.specs.World.{Store, World}
 use Rattle.zperform.specs.declared.outcome.Failure.{Failure}
 use Rattle.zperform.specs.declared.outcome.Failure.TheVariants.{File, Read, Write, Memory}
 use Rattle.zperform.specs.declared.outcome.Problem.{Problem}
-use Rattle.zperform.specs.declared.outcome.Problem.TheVariants.{Refused, Unreadable, BreaksStory, BreaksInstruction, Unlisted, Unfound, Occupied, Failed}
+use Rattle.zperform.specs.declared.outcome.Problem.TheVariants.{Refused, Unreadable, BreaksStory, BreaksInstruction, Unlisted, Unfound, Occupied, Failed, Packed}
 use Rattle.zperform.specs.declared.outcome.Outcome.{Outcome}
 use Rattle.zperform.specs.declared.outcome.Outcome.TheVariants.{Played, Stopped}
 use Rattle.zperform.specs.Accepting.{Accepts, IsAccepted, IsPlayedBy, IsUnaccepted, IsUnacceptedStory, PlayComesTo, PlayEnds}
@@ -97,6 +97,7 @@ module _ {V : Type 0} (o : SetOperations V) (format : Format V) (story certifica
   blameless (Unlisted error) h = absurd h
   blameless (Unfound error broken) h = absurd h
   blameless (Occupied purpose) h = absurd h
+  blameless (Packed error) h = absurd h
   blameless (Failed File) h = (λ e. cc, λ e. cc)
   blameless (Failed Memory) h = (λ e. cc, λ e. cc)
   blameless (Failed Read) h = absurd h
@@ -111,6 +112,7 @@ module _ {V : Type 0} (o : SetOperations V) (format : Format V) (story certifica
   unplayed_with options given before (Unlisted error) h = absurd h
   unplayed_with options given before (Unfound error broken) h = absurd h
   unplayed_with options given before (Occupied purpose) h = absurd h
+  unplayed_with options given before (Packed error) h = absurd h
   unplayed_with options given before (Failed File) h = (h, refl, refl)
   unplayed_with options given before (Failed Memory) h = inl (refl, refl, h)
   unplayed_with options given before (Failed Read) h = absurd h

@@ -29,7 +29,7 @@ use Rattle.zperform.specs.Report.{problem_of_reading}
 use Rattle.zperform.specs.Showing.{IsAnswer, IsSpelled, IsToldOf, IsUnshown, answer_line, fact_line, first_line, frame_text, numbered, spelled_line}
 use Rattle.zperform.specs.declared.outcome.Failure.TheVariants.{File, Read, Write, Memory}
 use Rattle.zperform.specs.declared.outcome.Problem.{Problem}
-use Rattle.zperform.specs.declared.outcome.Problem.TheVariants.{Refused, Unreadable, BreaksStory, BreaksInstruction, Unlisted, Unfound, Occupied, Failed}
+use Rattle.zperform.specs.declared.outcome.Problem.TheVariants.{Refused, Unreadable, BreaksStory, BreaksInstruction, Unlisted, Unfound, Occupied, Failed, Packed}
 use Rattle.zperform.proofs.AcceptLemmas.{story_bytes, unjudged_story}
 
 -- ---- lines
@@ -119,6 +119,7 @@ module _ {V : Type 0} (o : SetOperations V) (format : Format V) (story_known cer
   no_story_shown (Unlisted error) h = absurd h
   no_story_shown (Unfound error broken) h = absurd h
   no_story_shown (Occupied purpose) h = absurd h
+  no_story_shown (Packed error) h = absurd h
   no_story_shown (Failed File) h = tt
   no_story_shown (Failed Read) h = absurd h
   no_story_shown (Failed Write) h = absurd h
@@ -133,6 +134,7 @@ module _ {V : Type 0} (o : SetOperations V) (format : Format V) (story_known cer
   unshown_unwritten (Unlisted error) h e = cc
   unshown_unwritten (Unfound error broken) h e = cc
   unshown_unwritten (Occupied purpose) h e = cc
+  unshown_unwritten (Packed error) h e = cc
   unshown_unwritten (Failed File) h e = cc
   unshown_unwritten (Failed Read) h e = cc
   unshown_unwritten (Failed Write) h e = h
@@ -148,6 +150,7 @@ module _ {V : Type 0} (o : SetOperations V) (format : Format V) (story_known cer
     no_certificate_shown (Unlisted error) h = absurd h
     no_certificate_shown (Unfound error broken) h = absurd h
     no_certificate_shown (Occupied purpose) h = absurd h
+    no_certificate_shown (Packed error) h = absurd h
     no_certificate_shown (Failed File) h = tt
     no_certificate_shown (Failed Read) h = absurd h
     no_certificate_shown (Failed Write) h = absurd h

@@ -50,7 +50,8 @@ use Rattle.zperform.specs.Accepting.{CheckComesTo, HoldsStory, IsFedTo, IsNoCert
 use Rattle.zcommand.specs.CommandLine.{ListStory, Find, Check, Show, Play, Explain}
 use Rattle.zplayer.specs.World.{World}
 use Rattle.zperform.specs.Devices.{Breaks, Ends, FlushesUnless, Held, ReadsUnless, Says, Seen, Takes, UsesUnless}
-use Rattle.zperform.specs.Performing.{IsBlamed, given, is_quiet, is_request, store_of, written_by}
+use Rattle.zperform.specs.Performing.{IsBlamed, given, is_quiet, is_request, spoken, store_of, written_by}
+use Rattle.zperform.specs.declared.wording.Speech.TheVariants.{Codes, Words}
 use Rattle.zperform.specs.Finding.{HasAlone}
 use Rattle.zperform.specs.Playing.{ComesTo, Holds, IsPlayed, IsRefused}
 use Rattle.zperform.specs.declared.accepting.TheConstants.{STORY_LIMIT}
@@ -393,6 +394,13 @@ never story certificate before now options outside = (λ no. no, none, λ no. no
 -- input is read for a play alone
 input_read : (is_quiet (ListStory (codes "hello.z3") None true) ≡ true) × (is_quiet (ListStory (codes "hello.z3") (Some (codes "hello.cert")) true) ≡ true) × (is_quiet (Find (codes "hello.z3") (codes "hello.cert") None false false false true) ≡ true) × (is_quiet (Explain (Some (codes "I5")) true) ≡ true) × (is_quiet (Check (codes "hello.z3") (codes "hello.cert") true) ≡ true) × (is_quiet (Play (codes "hello.z3") None 1 100 false None false false) ≡ false)
 input_read = (refl, refl, refl, refl, refl, refl)
+
+-- on a terminal a play tells of refused saves, whether that is asked for or not; elsewhere what is asked for is done
+told_on_a_terminal :
+    (spoken Words (Play (1 ∷ []) None 1 2 true (Some (7 ∷ [])) false false) ≡ Play (1 ∷ []) None 1 2 true (Some (7 ∷ [])) true false)
+    × (spoken Codes (Play (1 ∷ []) (Some (2 ∷ [])) 1 2 false (Some (7 ∷ [])) false true) ≡ Play (1 ∷ []) (Some (2 ∷ [])) 1 2 false (Some (7 ∷ [])) false true)
+    × (spoken Codes (Play (1 ∷ []) None 1 2 false None true false) ≡ Play (1 ∷ []) None 1 2 false None true false) × (spoken Words (Check (1 ∷ []) (2 ∷ []) true) ≡ Check (1 ∷ []) (2 ∷ []) true)
+told_on_a_terminal = (refl, refl, refl, refl)
 
 -- a file may be written for a certificate and for saves
 files_written :

@@ -42,9 +42,9 @@ use Rattle.zperform.specs.declared.accepting.AcceptedStory.{AcceptedStory}
 use Rattle.zperform.specs.declared.accepting.AcceptedStory.TheVariants.{Intervals, Lists}
 use Rattle.zperform.specs.declared.outcome.Failure.TheVariants.{File, Read, Write, Memory}
 use Rattle.zperform.specs.declared.outcome.Problem.{Problem}
-use Rattle.zperform.specs.declared.outcome.Problem.TheVariants.{Refused, Unreadable, BreaksStory, BreaksInstruction, Unlisted, Unfound, Occupied, Failed}
+use Rattle.zperform.specs.declared.outcome.Problem.TheVariants.{Refused, Unreadable, BreaksStory, BreaksInstruction, Unlisted, Unfound, Occupied, Failed, Packed}
 use Rattle.zperform.specs.declared.outcome.Outcome.{Outcome}
-use Rattle.zperform.specs.declared.outcome.Outcome.TheVariants.{Listed, Found, Accepted, Through, Shown, NoAddress, Informed, Explained, NoSuchCode, OneForMany, Played, Stopped}
+use Rattle.zperform.specs.declared.outcome.Outcome.TheVariants.{Listed, Found, Accepted, Through, Shown, NoAddress, Informed, Explained, NoSuchCode, OneForMany, Played, Stopped, Unpacked}
 use Rattle.zperform.specs.Playing.{Holds, IsRefused, Reads, StaysEmpty}
 use Rattle.zperform.specs.Report.{accepted_line}
 
@@ -151,6 +151,7 @@ module _ {V : Type 0} (o : SetOperations V) (format : Format V) (story_known cer
   IsUnaccepted (Unlisted error) = ⊥
   IsUnaccepted (Unfound error broken) = ⊥
   IsUnaccepted (Occupied purpose) = ⊥
+  IsUnaccepted (Packed error) = ⊥
   IsUnaccepted (Failed File) = ⊤
   IsUnaccepted (Failed Memory) = HasBytes story_known
   IsUnaccepted (Failed Read) = ⊥
@@ -200,6 +201,7 @@ module _ {V : Type 0} (o : SetOperations V) (format : Format V) (story_known cer
   PlayEnds options given refusals before now NoAddress = ⊥
   PlayEnds options given refusals before now Informed = ⊥
   PlayEnds options given refusals before now Explained = ⊥
+  PlayEnds options given refusals before now Unpacked = ⊥
   PlayEnds options given refusals before now NoSuchCode = ⊥
   PlayEnds options given refusals before now OneForMany = ⊥
   PlayEnds options given refusals before now Accepted = ⊥
@@ -237,6 +239,7 @@ CheckComesTo story_known certificate_known before now Shown = ⊥
 CheckComesTo story_known certificate_known before now NoAddress = ⊥
 CheckComesTo story_known certificate_known before now Informed = ⊥
 CheckComesTo story_known certificate_known before now Explained = ⊥
+CheckComesTo story_known certificate_known before now Unpacked = ⊥
 CheckComesTo story_known certificate_known before now NoSuchCode = ⊥
 CheckComesTo story_known certificate_known before now OneForMany = ⊥
 CheckComesTo story_known certificate_known before now (Played end) = ⊥

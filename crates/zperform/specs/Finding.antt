@@ -12,7 +12,7 @@ use Rattle.zfind.specs.declared.error.FindError.TheVariants.{OutOfMemory as NoMe
 use Rattle.zexplain.specs.Short.{all_codes}
 use Rattle.zexplain.specs.declared.certificates.TheConstants.{FINDING, FITTING, READING}
 use Rattle.zexplain.specs.declared.faults.TheConstants.{FAULTS}
-use Rattle.zexplain.specs.declared.playing.TheConstants.{KEEPING, PLAYING, SAVING}
+use Rattle.zexplain.specs.declared.playing.TheConstants.{KEEPING, PLAYING, SAVING, UNPACKING}
 use Rattle.zexplain.specs.declared.rules.TheConstants.{RULES}
 use Rattle.zexplain.specs.declared.stories.TheConstants.{DECODING, LISTING, LOADING, TEXTS}
 use Rattle.zexplain.specs.Texts.{explanation_of}
@@ -105,7 +105,7 @@ unfoldable pub objects_of_certificates : List ℕ
 objects_of_certificates = flat_map (λ e. explained_line e.0.now e.1.now) READING ++ flat_map (λ e. explained_line e.0.now e.1.now) FITTING ++ flat_map (λ e. explained_line e.0.now e.1.now) FINDING ++ flat_map (λ e. explained_line e.0.now e.1.now) RULES
 
 unfoldable pub objects_of_play : List ℕ
-objects_of_play = flat_map (λ e. explained_line e.0.now e.1.now) FAULTS ++ flat_map (λ e. explained_line e.0.now e.1.now) SAVING ++ flat_map (λ e. explained_line e.0.now e.1.now) PLAYING ++ flat_map (λ e. explained_line e.0.now e.1.now) KEEPING
+objects_of_play = flat_map (λ e. explained_line e.0.now e.1.now) FAULTS ++ flat_map (λ e. explained_line e.0.now e.1.now) SAVING ++ flat_map (λ e. explained_line e.0.now e.1.now) UNPACKING ++ flat_map (λ e. explained_line e.0.now e.1.now) PLAYING ++ flat_map (λ e. explained_line e.0.now e.1.now) KEEPING
 
 abbrev pub all_objects : List ℕ
 all_objects = objects_of_stories ++ objects_of_certificates ++ objects_of_play

@@ -1,7 +1,7 @@
 -- Whether a file that is there may be written over (own).
 use Rattle.std.specs.Prelude.{◌≡◌, ℕ, false, List, Option, Some, None, IfSome, codes, length, take}
 use Rattle.clap.specs.Words.{Text}
-use Rattle.zcommand.specs.CommandLine.{Request, Find, Play}
+use Rattle.zcommand.specs.CommandLine.{Request, Find, Play, Unpack}
 use Rattle.zperform.specs.declared.outcome.Purpose.{Purpose}
 use Rattle.zperform.specs.declared.outcome.Purpose.TheVariants.{Certificate, Save}
 use Rattle.zperform.specs.declared.outcome.Problem.{Problem}
@@ -25,6 +25,7 @@ BeginsSo magic bytes = take 4 bytes ≡ take (length bytes) magic
 abbrev pub kept_in : Request → Option (Text × Purpose)
 kept_in (Find story certificate frames strict places false false) = Some (certificate, Certificate)
 kept_in (Play story certificate seed budget status (Some save) tell false) = Some (save, Save)
+kept_in (Unpack story save out false) = Some (out, Save)
 kept_in request = None
 
 -- the file that a request may write may be written over, where its bytes are known

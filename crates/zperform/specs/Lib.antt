@@ -20,3 +20,4 @@ pub mod Seeking
 pub mod Beside
 pub mod Performing
 pub mod Played
+pub mod Unpacking

@@ -4,7 +4,7 @@ use Rattle.clap.specs.Kinds.{IsAmong, Kinds}
 use Rattle.clap.specs.Words.{Row, Text, subcommand_of}
 use Rattle.clap.specs.declared.error.kind.ErrorKind.{ErrorKind}
 use Rattle.clap.specs.declared.error.kind.ErrorKind.TheVariants.{DisplayHelp, DisplayVersion}
-use Rattle.zcommand.specs.CommandLine.{Asks, Request, ListStory, Find, FindEach, OneForMany as NotOne, Check, CheckEach, Show, Play, Info, Explain, zpc_app}
+use Rattle.zcommand.specs.CommandLine.{Asks, Request, ListStory, Find, FindEach, OneForMany as NotOne, Check, CheckEach, Show, Play, Info, Explain, Unpack, zpc_app}
 use Rattle.zquetzal.specs.declared.error.SaveError.{SaveError}
 use Rattle.zplayer.specs.Outside.{Blames, words_of}
 use Rattle.zplayer.specs.World.{Store, World, world}
@@ -21,10 +21,11 @@ use Rattle.zperform.specs.Marking.{ListByComesTo}
 use Rattle.zperform.specs.Seeking.{FindEachComesTo, FindOneComesTo, IsOfOne}
 use Rattle.zperform.specs.Showing.{ShowComesTo}
 use Rattle.zperform.specs.Report.{status_of}
+use Rattle.zperform.specs.Unpacking.{IsOfThree, IsUnreadOfThree, UnpackComesTo}
 use Rattle.zperform.specs.Wording.{IsSaidSo}
 use Rattle.zperform.specs.declared.blame.Blame.{Blame}
 use Rattle.zperform.specs.declared.wording.Speech.{Speech}
-use Rattle.zperform.specs.declared.wording.Speech.TheVariants.{Codes}
+use Rattle.zperform.specs.declared.wording.Speech.TheVariants.{Codes, Words}
 use Rattle.zperform.specs.Telling.{SaysEach, said_of}
 use Rattle.zperform.specs.declared.finding.Search.{Search}
 use Rattle.zperform.specs.declared.outcome.Failure.TheVariants.{File, Read, Write, Memory}
@@ -115,6 +116,7 @@ Comes (Play story (Some certificate) seed budget status save tell force) files l
     PlayComesTo (files.known story) (files.known certificate) (record { budget = budget; status = status }) (given input seed (store_of save)) refusals before now outcome
 Comes (Info story json) files later input aside refusals before now outcome = InfoComesTo json story files.known before now outcome
 Comes (Explain code json) files later input aside refusals before now outcome = ExplainComesTo code json before now outcome
+Comes (Unpack story save out force) files later input aside refusals before now outcome = UnpackComesTo story save out files.known later.known before now outcome
 
 -- A request is done where its file may be written over. Else that is told, and nothing is done.
 abbrev pub Begins : Request → Held → Held → Option (List ℕ) → Aside → List SaveError → Option (List ℕ) → Option (List ℕ) → Outcome → Type 0
@@ -150,6 +152,7 @@ save_in _ = None
 -- the name of the file that a request may write
 abbrev pub written_by : Request → Option Text
 written_by (Find story certificate frames strict places force json) = Some certificate
+written_by (Unpack story save out force) = Some out
 written_by request = save_in request
 
 -- the refusals that are said of those that a request met, the newest first
@@ -177,6 +180,7 @@ IsBlamed (Play story None seed budget status save tell force) files = files.can_
 IsBlamed (Play story (Some certificate) seed budget status save tell force) files = IsOfEither files story certificate
 IsBlamed (Info story json) files = files.can_fail story ≡ true
 IsBlamed (Explain code json) files = ⊥
+IsBlamed (Unpack story save out force) files = IsOfThree files story save out
 
 -- which file is told of where one failed, by what is asked for: one that was to be read, or to be written
 abbrev pub IsToldOf : Request → Option Blame → Type 0
@@ -192,6 +196,12 @@ IsToldOf (Play story None seed budget status save tell force) blamed = IsUnread 
 IsToldOf (Play story (Some certificate) seed budget status save tell force) blamed = IsUnreadOf story certificate blamed
 IsToldOf (Info story json) blamed = IsUnread story blamed
 IsToldOf (Explain code json) blamed = ⊥
+IsToldOf (Unpack story save out force) blamed = IsUnreadOfThree story save out blamed
+
+-- what is done of a request: where words are told, as on a terminal, a play tells of each save that is refused, asked for or not
+abbrev pub spoken : Speech → Request → Request
+spoken Words (Play story certificate seed budget status save tell force) = Play story certificate seed budget status save true force
+spoken speech request = request
 
 -- A request, with the values among clap's matches: what it comes to is reported, if its file may be written over, behind what is said of a certificate that stands beside a story
 -- and isn't used, and a line of each save that was refused, where those are asked for. The writer is blamed just where it failed, and
@@ -201,8 +211,10 @@ IsToldOf (Explain code json) blamed = ⊥
 pub record Does (words : List Text) (speech : Speech) (status : ℕ) (old new : Devices) : Type 0 where
   pub matches : Text × List Row
   pub named : subcommand_of zpc_app words ≡ Some matches
+  pub asked : Request
+  pub asks : Asks matches asked
   pub request : Request
-  pub asks : Asks matches request
+  pub is_spoken : request ≡ spoken speech asked
   pub outcome : Outcome
   pub aside : Aside
   pub refusals : List SaveError

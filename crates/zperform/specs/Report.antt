@@ -23,6 +23,9 @@ use Rattle.zfind.specs.declared.error.FindError.{FindError}
 use Rattle.zfind.specs.declared.error.FindError.TheVariants.{NotFound, RoundLimit, OutOfMemory as NoMemoryToFind}
 use Rattle.zfind.specs.declared.error.Obstacle.{Obstacle}
 use Rattle.zfind.specs.declared.error.Obstacle.TheVariants as obstacles
+use Rattle.zunpack.specs.Refusal.{number_of as unpack_number}
+use Rattle.zunpack.specs.declared.error.UnpackError.{UnpackError}
+use Rattle.zunpack.specs.declared.error.UnpackError.TheVariants.{OutOfMemory as NoMemoryToUnpack}
 use Rattle.zplayer.specs.declared.end.End.{End}
 use Rattle.zplayer.specs.declared.end.End.TheVariants as ends
 use Rattle.zplayer.specs.declared.end.PlayError.{PlayError}
@@ -32,9 +35,9 @@ use Rattle.zperform.specs.Keeping.{purpose_number}
 use Rattle.zperform.specs.declared.outcome.Failure.{Failure}
 use Rattle.zperform.specs.declared.outcome.Failure.TheVariants.{File, Read, Write, Memory}
 use Rattle.zperform.specs.declared.outcome.Problem.{Problem}
-use Rattle.zperform.specs.declared.outcome.Problem.TheVariants.{Refused, Unreadable, BreaksStory, BreaksInstruction, Unlisted, Unfound, Occupied, Failed}
+use Rattle.zperform.specs.declared.outcome.Problem.TheVariants.{Refused, Unreadable, BreaksStory, BreaksInstruction, Unlisted, Unfound, Occupied, Failed, Packed}
 use Rattle.zperform.specs.declared.outcome.Outcome.{Outcome}
-use Rattle.zperform.specs.declared.outcome.Outcome.TheVariants.{Listed, Found, Accepted, Through, Shown, NoAddress, Informed, Explained, NoSuchCode, OneForMany, Played, Stopped}
+use Rattle.zperform.specs.declared.outcome.Outcome.TheVariants.{Listed, Found, Accepted, Through, Shown, NoAddress, Informed, Explained, NoSuchCode, OneForMany, Played, Stopped, Unpacked}
 
 -- a story that isn't loaded is refused, but for want of memory
 abbrev pub problem_of_load : LoadError → Problem
@@ -62,6 +65,11 @@ abbrev pub problem_of_listing : ListError → Problem
 problem_of_listing NoMemoryToList = Failed Memory
 problem_of_listing error = Unlisted error
 
+-- a save that isn't unpacked is refused, but for want of memory
+abbrev pub problem_of_unpack : UnpackError → Problem
+problem_of_unpack NoMemoryToUnpack = Failed Memory
+problem_of_unpack error = Packed error
+
 -- what breaks playing off is a failure
 abbrev pub problem_of_play : PlayError → Problem
 problem_of_play errors.Read = Failed Read
@@ -80,6 +88,7 @@ status_of Shown = 0
 status_of NoAddress = 2
 status_of Informed = 0
 status_of Explained = 0
+status_of Unpacked = 0
 status_of NoSuchCode = 2
 status_of OneForMany = 2
 status_of (Stopped (Failed failure)) = 4
@@ -138,7 +147,7 @@ found_line n = codes "found" ++ marks_text n ++ 10 ∷ []
 -- what is said of a code that there isn't, as clap says it of words: three lines with empty ones between
 abbrev pub no_code : List ℕ
 no_code =
-    codes "error: there is no such code; there are L1 to L12, K1 to K9, S1 to S8, I1 to I18, U1 to U4, G1 to G3, F1 to F16, J1 to J5, E1 to E3, Q1 to Q11, P1 to P3 and N1 to N2"
+    codes "error: there is no such code; there are L1 to L12, K1 to K9, S1 to S8, I1 to I18, U1 to U4, G1 to G3, F1 to F16, J1 to J5, E1 to E3, Q1 to Q11, C1 to C9, P1 to P3 and N1 to N2"
     ++ 10 ∷ 10 ∷ codes "Usage: zpc explain [OPTIONS] [CODE]" ++ 10 ∷ 10 ∷ codes "For more information, try '--help'."
 
 -- what is said of a word that is no address, in the same form
@@ -160,6 +169,7 @@ first_text (BreaksInstruction address rule) = codes "refused: I" ++ decimal (rul
 first_text (Unlisted error) = codes "refused: U" ++ decimal (list_number error) ++ codes " at " ++ place_text (list_place error)
 first_text (Unfound error broken) = codes "refused: G" ++ decimal (find_number error) ++ stopped_text error
 first_text (Occupied purpose) = codes "refused: N" ++ decimal (purpose_number purpose)
+first_text (Packed error) = codes "refused: C" ++ decimal (unpack_number error)
 first_text (Failed failure) = failure_text failure
 
 -- a rule of the story ended a search: that one is told, unless one is broken in every certificate
@@ -189,6 +199,7 @@ text_of Shown = []
 text_of NoAddress = no_address
 text_of Informed = []
 text_of Explained = []
+text_of Unpacked = []
 text_of NoSuchCode = no_code
 text_of OneForMany = one_for_many
 text_of (Played end) = end_text end

@@ -2,6 +2,7 @@
 use Rattle.std.specs.Prelude.{◌≡◌, ◌⊎◌, ◌<◌, ℕ, pos, Bool, true, List, length, ◌++◌, Option, None, Some, IfSome, Result, Ok, Err, codes, decimal, drop, option_map, string_bytes}
 use Rattle.zstory.specs.Refusal.{number_of as refusal_number}
 use Rattle.zcert.specs.Refusal.{number_of as reading_number}
+use Rattle.zunpack.specs.Refusal.{number_of as unpack_number}
 use Rattle.zrule.specs.Numbers.{number_of as rule_number}
 use Rattle.zcheck.specs.Numbers.{number_of as story_rule_number}
 use Rattle.zlist.specs.Listed.{number_of as list_number, place_of as list_place}
@@ -24,7 +25,7 @@ use Rattle.zperform.specs.declared.blame.Blame.{Blame}
 use Rattle.zperform.specs.declared.outcome.Failure.{Failure}
 use Rattle.zperform.specs.declared.outcome.Failure.TheVariants.{File, Read, Write, Memory}
 use Rattle.zperform.specs.declared.outcome.Problem.{Problem}
-use Rattle.zperform.specs.declared.outcome.Problem.TheVariants.{Refused, Unreadable, BreaksStory, BreaksInstruction, Unlisted, Unfound, Occupied, Failed}
+use Rattle.zperform.specs.declared.outcome.Problem.TheVariants.{Refused, Unreadable, BreaksStory, BreaksInstruction, Unlisted, Unfound, Occupied, Failed, Packed}
 use Rattle.zperform.specs.declared.verdict.Facts.{Facts}
 
 -- What is known of a file, which may fail or not: the digest of its bytes, unless it failed or is longer than a story may be; and what the
@@ -50,6 +51,7 @@ code_text (BreaksInstruction address rule) = codes "I" ++ decimal (rule_number r
 code_text (Unlisted error) = codes "U" ++ decimal (list_number error)
 code_text (Unfound error broken) = codes "G" ++ decimal (find_number error)
 code_text (Occupied purpose) = codes "N" ++ decimal (purpose_number purpose)
+code_text (Packed error) = codes "C" ++ decimal (unpack_number error)
 code_text (Failed failure) = failure_word failure
 
 -- where a search stopped, if that is a place

@@ -4,6 +4,7 @@ use Rattle.zfault.specs.Fault.{number_of as fault_number}
 use Rattle.zfault.specs.declared.fault.Fault.{Fault}
 use Rattle.zstory.specs.Refusal.{number_of as refusal_number}
 use Rattle.zcert.specs.Refusal.{number_of as reading_number}
+use Rattle.zunpack.specs.Refusal.{number_of as unpack_number}
 use Rattle.zrule.specs.Numbers.{number_of as rule_number}
 use Rattle.zcheck.specs.Numbers.{number_of as story_rule_number}
 use Rattle.zlist.specs.Listed.{number_of as list_number}
@@ -19,7 +20,7 @@ use Rattle.zperform.specs.Report.{end_text, first_text, line_of, rest_text, text
 use Rattle.zperform.specs.declared.blame.Blame.{Blame}
 use Rattle.zperform.specs.declared.outcome.Failure.TheVariants.{File, Read, Write, Memory}
 use Rattle.zperform.specs.declared.outcome.Problem.{Problem}
-use Rattle.zperform.specs.declared.outcome.Problem.TheVariants.{Refused, Unreadable, BreaksStory, BreaksInstruction, Unlisted, Unfound, Occupied, Failed}
+use Rattle.zperform.specs.declared.outcome.Problem.TheVariants.{Refused, Unreadable, BreaksStory, BreaksInstruction, Unlisted, Unfound, Occupied, Failed, Packed}
 use Rattle.zperform.specs.declared.outcome.Outcome.{Outcome}
 use Rattle.zperform.specs.declared.outcome.Outcome.TheVariants.{Played, Stopped}
 use Rattle.zperform.specs.declared.wording.Speech.{Speech}
@@ -55,6 +56,7 @@ words_text blame (BreaksInstruction address rule) = short_text (codes "I" ++ dec
 words_text blame (Unlisted error) = short_text (codes "U" ++ decimal (list_number error))
 words_text blame (Unfound error broken) = unfound_words error
 words_text blame (Occupied purpose) = short_text (codes "N" ++ decimal (purpose_number purpose))
+words_text blame (Packed error) = short_text (codes "C" ++ decimal (unpack_number error))
 words_text blame (Failed File) = blamed_text blame
 words_text blame (Failed Read) = short_text (codes "P" ++ decimal 1)
 words_text blame (Failed Write) = short_text (codes "P" ++ decimal 2)

@@ -10,7 +10,7 @@ use crate::performing::write_done;
 use std::alloc::{AllocError, Global};
 use zexplain::{
     DECODING, FAULTS, FINDING, FITTING, KEEPING, LISTING, LOADING, PLAYING, READING, RULES, SAVING,
-    TEXTS, all_codes, explanation,
+    TEXTS, UNPACKING, all_codes, explanation,
 };
 use zfault::Sink;
 use zjson::explained_line;
@@ -91,6 +91,7 @@ fn add_play(alloc: Global, text: &mut Vec<u8>) -> Result<(), AllocError>
 {
     add_objects(alloc, &FAULTS, text)?;
     add_objects(alloc, &SAVING, text)?;
+    add_objects(alloc, &UNPACKING, text)?;
     add_objects(alloc, &PLAYING, text)?;
     add_objects(alloc, &KEEPING, text)?;
     Ok(())

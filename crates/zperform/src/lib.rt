@@ -22,6 +22,7 @@ mod saves;
 mod seeking;
 mod showing;
 mod told;
+mod unpacking;
 mod verdict;
 mod wording;
 

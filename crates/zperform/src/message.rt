@@ -21,7 +21,7 @@ const ROOM: usize = 256;
 
 /// What is said of a code that there isn't.
 const NO_CODE: &[u8] =
-    b"error: there is no such code; there are L1 to L12, K1 to K9, S1 to S8, I1 to I18, U1 to U4, G1 to G3, F1 to F16, J1 to J5, E1 to E3, Q1 to Q11, P1 to P3 and N1 to N2
+    b"error: there is no such code; there are L1 to L12, K1 to K9, S1 to S8, I1 to I18, U1 to U4, G1 to G3, F1 to F16, J1 to J5, E1 to E3, Q1 to Q11, C1 to C9, P1 to P3 and N1 to N2
 
 Usage: zpc explain [OPTIONS] [CODE]
 
@@ -69,7 +69,8 @@ impl Message {
             | Outcome::Through(_)
             | Outcome::Shown
             | Outcome::Informed
-            | Outcome::Explained => {}
+            | Outcome::Explained
+            | Outcome::Unpacked => {}
             Outcome::NoAddress => message.push(NO_ADDRESS),
             Outcome::NoSuchCode => message.push(NO_CODE),
             Outcome::OneForMany => message.push(ONE_FOR_MANY),
@@ -235,6 +236,7 @@ impl Message {
             }
             Problem::Unfound(error, _) => self.push_unfound(*error),
             Problem::Occupied(purpose) => self.push_code(b"refused: N", purpose.number()),
+            Problem::Packed(error) => self.push_code(b"refused: C", error.number()),
             Problem::Failed(failure) => self.push(failure_text(*failure)),
         }
     }

@@ -2,7 +2,7 @@
 
 ghost use Rattle.std.specs.Prelude.{◌≡◌};
 ghost use Rattle.zperform.specs.Keeping.{magic_of, purpose_number};
-ghost use Rattle.zperform.specs.Report.{problem_of_checking, problem_of_listing, problem_of_load, problem_of_play, problem_of_reading, problem_of_stream, status_of};
+ghost use Rattle.zperform.specs.Report.{problem_of_checking, problem_of_listing, problem_of_load, problem_of_play, problem_of_reading, problem_of_stream, problem_of_unpack, status_of};
 
 use std::alloc::AllocError;
 use zbatch::Tally;
@@ -13,6 +13,7 @@ use zlist::ListError;
 use zplayer::{End, PlayError};
 use zrule::Rule;
 use zstory::LoadError;
+use zunpack::UnpackError;
 
 /// What a file, a device or the system kept from being done.
 #[derive(Clone, Copy)]
@@ -75,6 +76,8 @@ pub enum Problem {
     Unfound(FindError, Option<Obstacle>),
     /// The file that was to be written holds something else.
     Occupied(Purpose),
+    /// The file is no save that can be unpacked. Never for want of memory.
+    Packed(UnpackError),
     /// Something failed that isn't the story's fault.
     Failed(Failure),
 }
@@ -100,6 +103,8 @@ pub enum Outcome {
     Explained,
     /// There is no such code.
     NoSuchCode,
+    /// The save was unpacked, and the plain one is in its file.
+    Unpacked,
     /// One certificate is named for more stories than one, or for none.
     OneForMany,
     /// The story was played, and ended so.
@@ -121,6 +126,7 @@ impl Outcome {
             | Outcome::Shown
             | Outcome::Informed
             | Outcome::Explained
+            | Outcome::Unpacked
             | Outcome::Played(_) => 0,
             Outcome::Through(tally) => tally.status(),
             Outcome::NoAddress | Outcome::NoSuchCode | Outcome::OneForMany => 2,
@@ -190,6 +196,17 @@ fn of_listing(error: ListError) -> Problem
     match error {
         ListError::OutOfMemory => Problem::Failed(Failure::Memory),
         _ => Problem::Unlisted(error),
+    }
+}
+
+impl From<UnpackError> for Problem {
+    ghost from_gives = { λ error problem. problem ≡ problem_of_unpack error };
+
+    fn from(error: UnpackError) -> Problem {
+        match error {
+            UnpackError::OutOfMemory => Problem::Failed(Failure::Memory),
+            _ => Problem::Packed(error),
+        }
     }
 }
 

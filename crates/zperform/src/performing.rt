@@ -11,7 +11,7 @@ ghost use Rattle.zperform.specs.Accepting.{CheckComesTo, IsOfEither};
 ghost use Rattle.zperform.specs.Beside.{Aside};
 ghost use Rattle.zperform.specs.Devices.{Ends, FlushesUnless, Held, ReadsUnless, Says, Told, UsesUnless, Writes, devices, held, seen, told};
 ghost use Rattle.zperform.specs.Keeping.{IsOccupied, MayWrite, kept_in};
-ghost use Rattle.zperform.specs.Performing.{Begins, Comes, Explains, IsBlamed, IsToldOf, Performs, Reports, SaysFor, SaysOutcome, is_each, is_quiet, spared_in, written_by};
+ghost use Rattle.zperform.specs.Performing.{Begins, Comes, Explains, IsBlamed, IsToldOf, Performs, Reports, SaysFor, SaysOutcome, is_each, is_quiet, spared_in, spoken, written_by};
 ghost use Rattle.zperform.specs.Report.{line_of, no_text, outcome_of, text_of};
 ghost use Rattle.zquetzal.specs.declared.error.SaveError.{SaveError as ARefusal};
 
@@ -28,6 +28,7 @@ use crate::outcome::{Failure, Outcome, Problem, Purpose};
 use crate::playing::{Asked, Devices, play, play_by_certificate};
 use crate::seeking::{find_each, find_one};
 use crate::showing::show_files;
+use crate::unpacking::unpack_file;
 use crate::wording::{Speech, worded};
 use clap::Error;
 use clap::error::ErrorKind;
@@ -49,7 +50,7 @@ For more information, try '--help'.
 
 /// Does what the words after the program's name ask for, and answers the exit status. What a story shows, and help
 /// that was asked for, go to the writer; a line on anything else goes to `errors`, where a failure is ignored. Both are flushed. Where a
-/// play is to tell of saves that are refused, their lines come before that of its end.
+/// play is to tell of saves that are refused, as it is on a terminal, their lines come before that of its end.
 /// The reader gives a story its lines, and isn't touched but for a play.
 ///
 /// What is wrong is found in this order: the words, a file that isn't to be written over, the story, its certificate, the work.
@@ -67,11 +68,44 @@ pub fn perform<F: Files, R: Source, W: Sink, E: Sink>(
 {
     match read_words(alloc, words) {
         Ok(matches) => {
-            let command = command_of(&matches);
+            let asked = command_of(&matches);
+            let command = spoken(asked, speech);
             let outcome = carry_out(alloc, command, files, reader, writer, errors);
             report(alloc, &outcome, speech, files.blame(), errors)
         }
         Err(error) => explain(alloc, &error, writer, errors),
+    }
+}
+
+/// What is done of a command: where words are told, as on a terminal, a play tells of each save that is refused.
+fn spoken<'s, 'a>(command: Command<'s, 'a>, speech: Speech) -> Command<'s, 'a>
+    ensures request { request_of result ≡ spoken speech (request_of command.entry) }
+    ensures low { IsLow command.entry → IsLow result }
+{
+    match (speech, command) {
+        (
+            Speech::Words,
+            Command::Play {
+                story,
+                certificate,
+                seed,
+                budget,
+                status,
+                save,
+                force,
+                ..
+            },
+        ) => Command::Play {
+            story,
+            certificate,
+            seed,
+            budget,
+            status,
+            save,
+            tell: true,
+            force,
+        },
+        _ => command,
     }
 }
 
@@ -128,6 +162,11 @@ fn kept_by<'a>(command: Command<'_, 'a>) -> Option<(&'a str, Purpose)>
             force: false,
             ..
         } => Some((save, Purpose::Save)),
+        Command::Unpack {
+            out,
+            force: false,
+            ..
+        } => Some((out, Purpose::Save)),
         _ => None,
     }
 }
@@ -244,6 +283,12 @@ fn fulfil<F: Files, R: Source, W: Sink, E: Sink>(
         }
         Command::Info { story, json } => inform(alloc, story, json, files, writer),
         Command::Explain { code, json } => explain_code(alloc, code, json, writer),
+        Command::Unpack {
+            story,
+            save,
+            out,
+            ..
+        } => unpack_file(alloc, story, save, out, files),
     }
 }
 

@@ -14,7 +14,7 @@ use zquetzal::SaveError;
 
 /// The most bytes that are read of a save. The longest that can be written has 537,215,032: of the first frame and 4,096 with 15
 /// locals, each with 65,535 words. Others may have chunks beside those.
-const SAVE_LIMIT: usize = 1 << 30;
+pub const SAVE_LIMIT: usize = 1 << 30;
 
 /// A store in which no save can be kept: each call fails.
 #[derive(Drop)]

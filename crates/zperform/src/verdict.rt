@@ -202,6 +202,7 @@ fn code_text(alloc: Global, problem: &Problem) -> Result<String, AllocError>
         Problem::Unlisted(error) => numbered(alloc, "U", number_of(*error)),
         Problem::Unfound(error, _) => numbered(alloc, "G", error.number()),
         Problem::Occupied(purpose) => numbered(alloc, "N", purpose.number()),
+        Problem::Packed(error) => numbered(alloc, "C", error.number()),
         Problem::Failed(failure) => String::from_str(alloc, failure_word(*failure)),
     }
 }

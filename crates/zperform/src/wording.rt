@@ -94,6 +94,7 @@ pub fn add_words(
         Problem::Unlisted(error) => add_short(alloc, "U", number_of(*error), text),
         Problem::Unfound(error, _) => add_unfound(alloc, *error, text),
         Problem::Occupied(purpose) => add_short(alloc, "N", purpose.number(), text),
+        Problem::Packed(error) => add_short(alloc, "C", error.number(), text),
         Problem::Failed(failure) => add_failure(alloc, *failure, blame, text),
     }
 }

@@ -31,3 +31,12 @@ returns-in-Check-default-default-false-clause-comes g c = rw c.in-Check-default-
 
 pub returns-in-Find-clause-could : goal.returns-in-Find-clause-could
 returns-in-Find-clause-could g c = rw c.in-Find.is c.find_one.ensures.could
+
+pub returns-in-Unpack-clause-comes : goal.returns-in-Unpack-clause-comes
+returns-in-Unpack-clause-comes g c = rw c.in-Unpack.is (Unsought, [], record { ends = c.unpack_file.ensures.ends; spared = c.unpack_file.ensures.spared; silent = refl }, refl)
+
+pub returns-in-Unpack-clause-could : goal.returns-in-Unpack-clause-could
+returns-in-Unpack-clause-could g c = rw c.in-Unpack.is c.unpack_file.ensures.could
+
+pub returns-in-Unpack-clause-blamed : goal.returns-in-Unpack-clause-blamed
+returns-in-Unpack-clause-blamed g c = rw c.in-Unpack.is c.unpack_file.ensures.blamed
