@@ -11,7 +11,7 @@ use std::process::ExitCode;
 use zfault::{FromRead, ToWrite};
 use zperform::{Disk, Failure, Speech, fail, perform, refuse_bytes};
 
-/// How many bytes of the stack are taken at once: more than any command needs.
+/// How many bytes of the stack are taken at once: more than any command was seen to need.
 const STACK: usize = 448 * 1024;
 
 fn main(rt: HostRuntime) -> ExitCode {
