@@ -1,13 +1,10 @@
 -- What was read of a save's file, and what unpacking comes to.
-use Rattle.std.proofs.Common.{◌≡◌, ◌⊎◌, inl, inr, ℕ, List, Option, Some, None, refl, sym, subst, take}
+use Rattle.std.proofs.Common.{◌≡◌, ℕ, List, Option, Some, None, refl, subst, take}
 use Rattle.std.specs.Prelude.{IfOk, IfSome, Result, Ok, Err}
 use Rattle.zstory.specs.LoadedStory.{LoadedStory}
 use Rattle.zunpack.specs.Causes.{IsCause, IsRefused}
 use Rattle.zunpack.specs.declared.error.UnpackError.{UnpackError}
 use Rattle.zunpack.specs.declared.error.UnpackError.TheVariants.{NotForm, Length, ChunkMissing, ChunkTwice, Plain, OtherStory, Unfinished, TooLong, Frames, OutOfMemory}
-use Rattle.zperform.specs.declared.outcome.Failure.TheVariants.{File, Memory}
-use Rattle.zperform.specs.declared.outcome.Problem.{Problem}
-use Rattle.zperform.specs.declared.outcome.Problem.TheVariants.{Failed}
 use Rattle.zperform.specs.Report.{problem_of_unpack}
 use Rattle.zperform.specs.Accepting.{HoldsStory}
 use Rattle.zperform.specs.Unpacking.{IsPacked, IsUnpacked, IsUnpackedOf, ReadsSave}
@@ -33,24 +30,6 @@ module _ (known : Option (List ℕ)) (taken : List ℕ) (part : (file : List ℕ
   packed_for story TooLong why = ((taken, save_read, why), λ e. cc)
   packed_for story Frames why = ((taken, save_read, why), λ e. cc)
   packed_for story OutOfMemory why = tt
-
--- a file that can't be read isn't unpacked
-pub unread_packed : (known : Option (List ℕ)) (story : LoadedStory) (problem : Problem) → (problem ≡ Failed File) ⊎ (problem ≡ Failed Memory) → IsPacked known story problem
-unread_packed known story problem (inl is) = subst (IsPacked known story) (sym is) tt
-unread_packed known story problem (inr is) = subst (IsPacked known story) (sym is) tt
-
--- why unpacking fails isn't a file, nor a device
-pub unpack_reads : (error : UnpackError) → ¬ (problem_of_unpack error ≡ Failed File)
-unpack_reads NotForm e = cc
-unpack_reads Length e = cc
-unpack_reads ChunkMissing e = cc
-unpack_reads ChunkTwice e = cc
-unpack_reads Plain e = cc
-unpack_reads OtherStory e = cc
-unpack_reads Unfinished e = cc
-unpack_reads TooLong e = cc
-unpack_reads Frames e = cc
-unpack_reads OutOfMemory e = cc
 
 -- what is unpacked of a story that is loaded is unpacked of its file, whose save is as it was before
 pub unpacked_of : {T E : Type 0} (r : Result T E) (items : T → List ℕ) (story_known : Option (List ℕ)) (story : LoadedStory) (before after : Option (List ℕ)) → HoldsStory story_known story → after ≡ before

@@ -1,5 +1,5 @@
 -- Values of what unpacking comes to, computed.
-use Rattle.std.proofs.Common.{◌≡◌, ◌≤◌, ℕ, List, [], ◌∷◌, None, Some, true, false, codes, length, refl, ap, Option, subst, take}
+use Rattle.std.proofs.Common.{◌≡◌, ◌≤◌, ℕ, List, [], ◌∷◌, None, Some, true, false, codes, length, refl, ap, Option, subst}
 use Rattle.std.specs.Fmt.{digits}
 use Rattle.std.proofs.lemmas.List.{take_all}
 use Rattle.zstory.specs.LoadedStory.{LoadedStory}
@@ -9,7 +9,7 @@ use Rattle.zperform.specs.Keeping.{kept_in}
 use Rattle.zperform.specs.Performing.{is_each, is_quiet, spared_in, written_by}
 use Rattle.zperform.specs.Report.{problem_of_unpack, status_of, text_of}
 use Rattle.zperform.specs.Unpacking.{IsPacked, ReadsSave, UnpackEnds}
-use Rattle.zperform.specs.declared.outcome.Failure.TheVariants.{File, Read, Write, Memory}
+use Rattle.zperform.specs.declared.outcome.Failure.TheVariants.{Read, Write, Memory}
 use Rattle.zperform.specs.declared.outcome.Problem.TheVariants.{Failed, Occupied, Packed}
 use Rattle.zperform.specs.declared.outcome.Purpose.TheVariants as purposes
 use Rattle.zperform.specs.declared.outcome.Outcome.TheVariants.{Found, Stopped, Unpacked}

@@ -1,6 +1,6 @@
 //! The parts of a compressed save.
 
-ghost use Rattle.std.specs.Prelude.{◌≡◌, ◌<◌, ◌≤◌, ℕ, List, length, IfErr, IfOk, OnOk};
+ghost use Rattle.std.specs.Prelude.{◌≡◌, ◌<◌, ◌≤◌, List, length, IfErr, IfOk, OnOk};
 ghost use Rattle.zstory.specs.LoadedStory.{IsSound, static_base};
 ghost use Rattle.zquetzal.specs.Grammar.{Chunk as SavedChunk};
 ghost use Rattle.zquetzal.specs.Reading.{is_of};

@@ -1,4 +1,4 @@
-use Rattle.std.proofs.Common.{◌≡◌, ◌∙◌, inl, ap, rules, subst, List, ℕ}
+use Rattle.std.proofs.Common.{◌≡◌, ap, rules, subst, List, ℕ}
 use Rattle.std.specs.Prelude.{Option}
 use Rattle.zperform.specs.Finding.{HasAlone}
 use Rattle.zperform.proofs.unpacking.unpack_file.Goals as goal
