@@ -1,0 +1,5 @@
+pub mod Determined
+pub mod Feeding
+pub mod Sinking
+pub mod Taking
+mod Worked

@@ -1,0 +1,4 @@
+pub mod Laws
+pub mod Owed
+pub mod Sinks
+pub mod Wrapping

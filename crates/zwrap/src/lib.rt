@@ -1,0 +1,14 @@
+//! The text of a story, wrapped at the width of a terminal.
+#![tactic(auto)]
+
+mod giving;
+mod laws;
+mod pending;
+mod sink;
+mod wrapper;
+
+pub use laws::{
+    no_width_wraps_nothing, pieces_join, taken_pieces_join, text_is_wrapped, wrapping_is_determined,
+};
+pub use sink::Wrapped;
+pub use wrapper::Wrapper;
