@@ -1,8 +1,9 @@
 //! Laws of the definitions: the contracts of these functions, which do nothing.
 
-ghost use Rattle.std.specs.Prelude.{◌≡◌, ◌<◌, ◌++◌, ℕ, List, Option};
+ghost use Rattle.std.specs.Prelude.{◌≡◌, ◌<◌, ◌++◌, [], ℕ, List, Option};
+ghost use Rattle.std.specs.Io.KnownBytes.{Appends};
 ghost use Rattle.zwrap.specs.Laws.{IsWrapped};
-ghost use Rattle.zwrap.specs.Owed.{Owed, Passes};
+ghost use Rattle.zwrap.specs.Owed.{Finishes, GivesSome, Owed, Passes, bytes_owed, nothing_owed};
 ghost use Rattle.zwrap.specs.Wrapping.{Feeds, Wrapping, wrapped};
 
 /// At a width of 1 or more, what a text is shown as has as many bytes, of which some spaces became ends of lines and the others stayed; each
@@ -33,4 +34,22 @@ pub fn pieces_join()
 #[tactic(auto, using(crate::proofs::Sinking::passes_join))]
 pub fn taken_pieces_join()
     ensures { (old between new : Option (List ℕ)) (first second third : Owed) (piece more : List ℕ) → Passes old between first second piece → Passes between new second third more → Passes old new first third (piece ++ more) }
+{}
+
+/// A write that failed lost nothing: what comes of the next call is as if that write hadn't been asked for.
+pub fn failed_writes_lose_nothing()
+    ensures taken { (old between new : Option (List ℕ)) (first second third : Owed) (piece : List ℕ) → GivesSome old between first second → Passes between new second third piece → Passes old new first third piece }
+    ensures flushed { (old between new : Option (List ℕ)) (first second third : Owed) → GivesSome old between first second → Finishes between new second third → Finishes old new first third }
+{}
+
+/// Nor did a flush that failed, where the next call is one too.
+#[tactic(auto, using(crate::proofs::Flushing::finishes_again))]
+pub fn failed_flushes_lose_nothing()
+    ensures { (old between new : Option (List ℕ)) (first second third : Owed) → Finishes old between first second → Finishes between new second third → Finishes old new first third }
+{}
+
+/// A text that was taken at the beginning of a line, and all given out by a flush, is below as it is wrapped.
+#[tactic(auto, using(crate::proofs::Flushing::flushed_wrapped))]
+pub fn flushed_text_is_wrapped()
+    ensures { (old between new : Option (List ℕ)) (width : ℕ) (second third : Owed) (text : List ℕ) → Passes old between (nothing_owed width) second text → Finishes between new second third → bytes_owed third ≡ [] → Appends old new (wrapped width 0 text) }
 {}

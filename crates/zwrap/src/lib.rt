@@ -8,7 +8,9 @@ mod sink;
 mod wrapper;
 
 pub use laws::{
-    no_width_wraps_nothing, pieces_join, taken_pieces_join, text_is_wrapped, wrapping_is_determined,
+    failed_flushes_lose_nothing, failed_writes_lose_nothing, flushed_text_is_wrapped,
+    no_width_wraps_nothing, pieces_join, taken_pieces_join, text_is_wrapped,
+    wrapping_is_determined,
 };
 pub use sink::Wrapped;
 pub use wrapper::Wrapper;
