@@ -3,8 +3,10 @@
 
 mod end;
 mod laws;
+mod lenient;
 mod lines;
 mod machine;
+mod noting;
 mod outside;
 mod player;
 mod saving;
@@ -13,6 +15,8 @@ mod turns;
 
 pub use end::{End, Options, PlayError};
 pub use laws::{plays_are_runs, story_plays_are_runs};
+pub use lenient::{Lenience, play_leniently};
+pub use noting::{Notes, Warnings};
 pub use outside::{SaveStore, Words, World};
 pub use player::{play_checked, play_story};
 pub use seeded::Seeded;

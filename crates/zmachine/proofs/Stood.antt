@@ -1,0 +1,121 @@
+-- A board in another state of its story.
+use Rattle.std.proofs.Common.{◌≡◌, ℕ, zero, suc, ◌+◌, ◌<◌, ◌≤◌, List, [], ◌∷◌, ◌++◌, length, drop, map, reverse, take, Ok, Err, refl, sym, ap, subst, ◌∙◌, arith}
+use Rattle.std.specs.Prelude.{ℤ, pos, ◌+ℤ◌, ◌-ℤ◌, Result, slice_index, slice_set}
+use Rattle.std.proofs.lemmas.Int.{ints}
+use Rattle.std.proofs.lemmas.List.{length-append, length-map, length-reverse, map-append, reverse-append, reverse-reverse, take-append-drop}
+use Rattle.zquetzal.specs.Reading.{reading}
+use Rattle.zquetzal.specs.declared.error.SaveError.{SaveError}
+use Rattle.zquetzal.specs.declared.limits.TheConstants.{MOST_FRAMES}
+use Rattle.zquetzal.specs.Saved.{Frame as SavedFrame, IsSaved, Saved, origin_of}
+use Rattle.zquetzal.specs.Grammar.{save_text}
+use Rattle.zstory.specs.LoadedStory.{IsSound, LoadedStory}
+use Rattle.zstate.specs.Saved.{CanBeSaved}
+use Rattle.zstate.specs.Saves.{StatesAreSaved, kept_frame, resumed, save_place, saved_of, taken_frame, with_frames}
+use Rattle.zstate.specs.State.{Frame, IsState, Setting, State, most_limit}
+use Rattle.zengine.specs.declared.board.Board.{Board}
+use Rattle.zengine.specs.declared.row.Row.{Row}
+use Rattle.zengine.specs.Body.{Body, spot_at, standing}
+use Rattle.zengine.specs.Frames.{AreFrames}
+use Rattle.zengine.specs.Play.{Game, state_in}
+use Rattle.zengine.specs.View.{body_of}
+use Rattle.zmachine.specs.Parts.{IsInside}
+use Rattle.zmachine.specs.Rows.{IsAsLoaded, IsPlayed}
+use Rattle.zmachine.specs.Standing.{IsLaid}
+
+-- ---- what was saved of a state is that state again
+
+reverse_map_kept : (gs : List Frame) → map kept_frame (reverse gs) ≡ reverse (map kept_frame gs)
+reverse_map_kept [] = refl
+reverse_map_kept (g ∷ gs) =
+    ap (map kept_frame) (reverse-append (g ∷ []) gs) ∙ map-append kept_frame (reverse gs) (g ∷ []) ∙ ap (λ (ks : List SavedFrame). ks ++ kept_frame g ∷ []) (reverse_map_kept gs)
+    ∙ sym (reverse-append (kept_frame g ∷ []) (map kept_frame gs))
+
+one_again : (g : Frame) → taken_frame (kept_frame g) ≡ g
+one_again g = ap (λ (ws : List ℕ). record g { stack = ws }) (reverse-reverse g.stack)
+
+each_again : (gs : List Frame) → map taken_frame (map kept_frame gs) ≡ gs
+each_again [] = refl
+each_again (g ∷ gs) = rw (one_again g) (ap (λ (hs : List Frame). g ∷ hs) (each_again gs))
+
+frames_again : (fs : List Frame) → map taken_frame (reverse (map kept_frame (reverse fs))) ≡ fs
+frames_again fs =
+    ap (map taken_frame) (sym (reverse_map_kept (reverse fs))) ∙ ap (λ (gs : List Frame). map taken_frame (map kept_frame gs)) (reverse-reverse fs) ∙ each_again fs
+
+back_one : (p : ℕ) → pos (p + 1) -ℤ pos 1 ≡ pos p
+back_one p = grind (arith, ints)
+
+place_again : (story : LoadedStory) (s : State) (p : ℕ) → s.place ≡ pos p → save_place (saved_of story s) ≡ s.place
+place_again story s p is = rw is (back_one p)
+
+-- with its memory, and what comes from outside
+pub resumed_again : (story : LoadedStory) (s x : State) → IsInside s → record (resumed story (saved_of story s) x) { memory = s.memory; random = s.random; prompted = s.prompted; waiting = s.waiting } ≡ s
+resumed_again story s x inside =
+    ap (λ (fs : List Frame). with_rest (with_frames fs base)) (frames_again (s.frame ∷ s.callers)) ∙ ap (λ (place : ℤ). record s { place = place }) (place_again story s inside.0 inside.1)
+  where
+    base : State
+    base = record x { memory = s.memory; place = save_place (saved_of story s); prompted = s.prompted; waiting = s.waiting }
+
+    with_rest : State → State
+    with_rest t = record t { memory = s.memory; random = s.random; prompted = s.prompted; waiting = s.waiting }
+
+-- ---- the board
+
+-- whatever its memory was, and what came from outside
+pub stands_again : (g : Game) (story : LoadedStory) (s x : State) (saved : Saved) (laid new : Board) → saved ≡ saved_of story s → IsInside s → state_in g laid ≡ resumed story saved x → body_of new ≡ record (body_of laid) { memory = s.memory; outside = record { random = s.random; prompted = s.prompted; waiting = s.waiting } } → new.at ≡ laid.at → state_in g new ≡ s
+stands_again g story s x saved laid new is inside laid_is body at =
+    ap (λ (k : ℕ). standing g.spots (spot_at g.spots k) (body_of new)) at
+    ∙ ap (λ (b : Body). standing g.spots (spot_at g.spots laid.at) b) body
+    ∙ ap (λ (t : State). record t { memory = s.memory; random = s.random; prompted = s.prompted; waiting = s.waiting }) (laid_is ∙ ap (λ (k : Saved). resumed story k x) is)
+    ∙ resumed_again story s x inside
+
+pub played_again : (g : Game) (rows : List Row) (s : State) (laid new : Board) → IsLaid g rows laid → state_in g new ≡ s → IsState g.setting.limit g.setting.story s → IsAsLoaded g.setting.story s.memory → body_of new ≡ record (body_of laid) { memory = s.memory; outside = record { random = s.random; prompted = s.prompted; waiting = s.waiting } } → new.at ≡ laid.at → IsPlayed g rows new
+played_again g rows s laid new is stands state loaded body at = record {
+  within = rw at is.within;
+  state = subst (λ (t : State). IsState g.setting.limit g.setting.story t) (sym stands) state;
+  loaded = subst (λ (b : Body). IsAsLoaded g.setting.story b.memory) (sym body) loaded;
+  frames = subst (λ (b : Body). AreFrames g.setting.story g.spots rows b.above b.base b.words) (sym body) is.frames;
+}
+
+-- ---- what is written of a state
+
+pub can_be_saved : (limit : ℕ) (story : LoadedStory) (s : State) → IsSound story.memory → limit < MOST_FRAMES → IsState limit story s → IsInside s → CanBeSaved story s
+can_be_saved limit story s sound few state inside = record {
+  sound = sound;
+  limit = limit;
+  low = omega (arith, few);
+  is_state = state;
+  at = inside.0;
+  place = inside.1;
+  inside = inside.2;
+}
+
+pub is_saved : (limit : ℕ) (story : LoadedStory) (s : State) → StatesAreSaved → IsSound story.memory → limit < MOST_FRAMES → IsState limit story s → IsInside s → IsSaved story (saved_of story s)
+is_saved limit story s law sound few state inside = law limit story s inside.0 sound state (omega (arith, few)) inside.1 inside.2
+
+abbrev good : {A : Type 0} → A → Result A SaveError
+good x = Ok x
+
+good_is : {A : Type 0} (x y : A) → good x ≡ good y → x ≡ y
+good_is x y e = cc
+
+pub same_saved : (story : LoadedStory) (bytes : List ℕ) (a b : Saved) → reading story bytes ≡ Ok a → reading story bytes ≡ Ok b → a ≡ b
+same_saved story bytes a b x y = good_is a b (sym x ∙ y)
+
+pub few_saved : (limit : ℕ) (story : LoadedStory) (s : State) (saved : Saved) → saved ≡ saved_of story s → IsState limit story s → length saved.frames ≤ limit + 1
+few_saved limit story s saved is state =
+    let size : length saved.frames ≡ length (map kept_frame (reverse (s.frame ∷ s.callers))) = ap (λ (k : Saved). length k.frames) is in
+    let mapped : length (map kept_frame (reverse (s.frame ∷ s.callers))) ≡ length (reverse (s.frame ∷ s.callers)) = length-map _ _ in
+    let turned = length-reverse (s.frame ∷ s.callers) in
+    let few = state.few in
+    omega (arith, size, mapped, turned, few)
+
+-- ---- memory that is copied byte by byte
+
+pub copied_more : (k : ℕ) (xs ys : List ℕ) → k < length xs → k < length ys → slice_set (take k xs ++ drop k ys) k (slice_index xs k) ≡ take (k + 1) xs ++ drop (k + 1) ys
+copied_more k [] ys below under = absurd (omega (arith, below))
+copied_more k (x ∷ xs) [] below under = absurd (omega (arith, under))
+copied_more zero (x ∷ xs) (y ∷ ys) below under = refl
+copied_more (suc k) (x ∷ xs) (y ∷ ys) below under = ap (λ (zs : List ℕ). x ∷ zs) (copied_more k xs ys (omega (arith, below)) (omega (arith, under)))
+
+pub copied_all : (n : ℕ) (xs ys : List ℕ) → drop n ys ≡ drop n xs → take n xs ++ drop n ys ≡ xs
+copied_all n xs ys same = ap (λ (zs : List ℕ). take n xs ++ zs) same ∙ take-append-drop n xs
