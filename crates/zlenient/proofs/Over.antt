@@ -40,7 +40,7 @@ unfolding lenient_fetch
 fetched_by scope place memory p r at listed is = subst (λ (z : ℤ). is_listed_at scope z ≡ true → lenient_fetch scope z memory ≡ or_passed (drop p memory) r) (sym at) by listed
   where
     by : scope.instructions p ≡ true → (if scope.instructions p then or_passed (drop p memory) (instruction_at (drop p memory)) else fault UnlistedInstruction) ≡ or_passed (drop p memory) r
-    by yes = rw (yes, is) refl
+    by listed_there = rw (listed_there, is) refl
 
 -- an instruction of the profile is fetched
 pub fetched_listed : (scope : Scope) (place : ℤ) (memory : List ℕ) (p : ℕ) (i : Instruction) → place ≡ pos p → is_listed_at scope place ≡ true → instruction_at (drop p memory) ≡ Ok i → fetch scope place memory ≡ Ok i
@@ -48,7 +48,7 @@ unfolding fetch
 fetched_listed scope place memory p i at listed is = subst (λ (z : ℤ). is_listed_at scope z ≡ true → fetch scope z memory ≡ Ok i) (sym at) by listed
   where
     by : scope.instructions p ≡ true → (if scope.instructions p then decoded (instruction_at (drop p memory)) else fault UnlistedInstruction) ≡ Ok i
-    by yes = rw (yes, is) refl
+    by listed_there = rw (listed_there, is) refl
 
 abbrev placed : ℕ → ℤ
 placed p = pos p

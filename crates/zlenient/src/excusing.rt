@@ -120,10 +120,11 @@ fn do_answer(
     }
 }
 
-/// A place from the first byte on.
-fn index_of(place: i32) -> Option<usize>
-    ensures { MatchOption result ((p : ℕ) → place ≡ pos p → ⊥) (λ p. place ≡ pos p) }
+/// Where a state stands, from the first byte of memory on.
+fn index_of(state: &State) -> Option<usize>
+    ensures { MatchOption result ((p : ℕ) → state.now.place ≡ pos p → ⊥) (λ p. state.now.place ≡ pos p) }
 {
+    let place = state.place();
     if place < 0 {
         return None;
     }
@@ -220,14 +221,16 @@ pub fn excuse(
     ensures front_stays { OnErr result (front.new ≡ front.old) }
 {
     let _memory = story.memory();
-    let Some(place) = index_of(state.place()) else {
+    let Some(place) = index_of(state) else {
         return Err(Unexcused::Halt(Halt::Fault(Fault::UnlistedInstruction)));
     };
     match decode(state.memory(), place) {
         Ok(instruction) => do_instead(story, state, &instruction, fault),
-        Err(DecodeError::NotInProfile(opcode)) => {
-            pass_over(story, state, front, place, opcode, fault)
-        }
-        Err(_) => Err(Unexcused::Halt(Halt::Fault(Fault::IllegalOpcode))),
+        Err(cause) => match cause {
+            DecodeError::NotInProfile(opcode) => {
+                pass_over(story, state, front, place, opcode, fault)
+            }
+            _ => Err(Unexcused::Halt(Halt::Fault(Fault::IllegalOpcode))),
+        },
     }
 }
