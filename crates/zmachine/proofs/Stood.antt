@@ -1,17 +1,18 @@
 -- A board in another state of its story.
-use Rattle.std.proofs.Common.{◌≡◌, ℕ, zero, suc, ◌+◌, ◌<◌, ◌≤◌, List, [], ◌∷◌, ◌++◌, length, drop, map, reverse, take, Ok, Err, refl, sym, ap, subst, ◌∙◌, arith}
+use Rattle.std.proofs.Common.{◌≡◌, ℕ, zero, suc, ◌+◌, ◌%◌, ◌<◌, ◌≤◌, false, List, [], ◌∷◌, ◌++◌, length, drop, map, reverse, take, Ok, Err, refl, sym, ap, subst, ◌∙◌, arith}
 use Rattle.std.specs.Prelude.{ℤ, pos, ◌+ℤ◌, ◌-ℤ◌, Result, slice_index, slice_set}
 use Rattle.std.proofs.lemmas.Int.{ints}
-use Rattle.std.proofs.lemmas.List.{length-append, length-map, length-reverse, map-append, reverse-append, reverse-reverse, take-append-drop}
+use Rattle.std.proofs.Math.Nat.{mod-eq_of_lt}
+use Rattle.std.proofs.lemmas.List.{length-append, length-drop, length-map, length-reverse, length-take-le, map-append, reverse-append, reverse-reverse, take-append-drop}
 use Rattle.zquetzal.specs.Reading.{reading}
 use Rattle.zquetzal.specs.declared.error.SaveError.{SaveError}
 use Rattle.zquetzal.specs.declared.limits.TheConstants.{MOST_FRAMES}
 use Rattle.zquetzal.specs.Saved.{Frame as SavedFrame, IsSaved, Saved, origin_of}
 use Rattle.zquetzal.specs.Grammar.{save_text}
-use Rattle.zstory.specs.LoadedStory.{IsSound, LoadedStory}
+use Rattle.zstory.specs.LoadedStory.{IsSound, LoadedStory, static_base}
 use Rattle.zstate.specs.Saved.{CanBeSaved}
 use Rattle.zstate.specs.Saves.{StatesAreSaved, kept_frame, resumed, save_place, saved_of, taken_frame, with_frames}
-use Rattle.zstate.specs.State.{Frame, IsState, Setting, State, most_limit}
+use Rattle.zstate.specs.State.{Frame, IsState, Setting, State, most_limit, with_memory}
 use Rattle.zengine.specs.declared.board.Board.{Board}
 use Rattle.zengine.specs.declared.row.Row.{Row}
 use Rattle.zengine.specs.Body.{Body, spot_at, standing}
@@ -21,6 +22,7 @@ use Rattle.zengine.specs.View.{body_of}
 use Rattle.zmachine.specs.Parts.{IsInside}
 use Rattle.zmachine.specs.Rows.{IsAsLoaded, IsPlayed}
 use Rattle.zmachine.specs.Standing.{IsLaid}
+use Rattle.zmachine.proofs.Restoring.{resumed_loaded, resumed_size}
 
 -- ---- what was saved of a state is that state again
 
@@ -119,3 +121,44 @@ copied_more (suc k) (x ∷ xs) (y ∷ ys) below under = ap (λ (zs : List ℕ). 
 
 pub copied_all : (n : ℕ) (xs ys : List ℕ) → drop n ys ≡ drop n xs → take n xs ++ drop n ys ≡ xs
 copied_all n xs ys same = ap (λ (zs : List ℕ). take n xs ++ zs) same ∙ take-append-drop n xs
+
+-- as far as it is copied, memory is as long
+pub copied_size : (k : ℕ) (xs ys : List ℕ) → k ≤ length xs → length ys ≡ length xs → length (take k xs ++ drop k ys) ≡ length xs
+copied_size k xs ys within same =
+    let joined = length-append (take k xs) (drop k ys) in
+    let front : length (take k xs) ≡ k = length-take-le k xs within in
+    let rest = length-drop k ys in
+    omega (arith, joined, front, rest, within, same)
+
+module _ (s : State) (xs : List ℕ) (size : length s.memory ≡ length xs) where
+  -- a byte more
+  pub copied_on : (k x : ℕ) (t u : State) → x ≡ slice_index xs k → x < 256 → k < length xs → t ≡ with_memory (take k xs ++ drop k s.memory) s → u ≡ with_memory (slice_set t.memory k (x % 256)) t → u ≡ with_memory (take (k + 1) xs ++ drop (k + 1) s.memory) s
+  copied_on k x t u is small within is_t is_u =
+      is_u
+      ∙ ap (λ (v : State). with_memory (slice_set v.memory k (x % 256)) v) is_t
+      ∙ ap (λ (y : ℕ). with_memory (slice_set (take k xs ++ drop k s.memory) k y) s) (mod-eq_of_lt small ∙ is)
+      ∙ ap (λ (ms : List ℕ). with_memory ms s) (copied_more k xs s.memory within (omega (arith, within, size)))
+
+  -- and all, where the rest is the same
+  pub copied_end : (k end : ℕ) (t : State) → k ≤ end → end ≤ k → drop end s.memory ≡ drop end xs → t ≡ with_memory (take k xs ++ drop k s.memory) s → t ≡ with_memory xs s
+  copied_end k end t most least same is =
+      let there : k ≡ end = omega (arith, most, least) in
+      is ∙ ap (λ (n : ℕ). with_memory (take n xs ++ drop n s.memory) s) there ∙ ap (λ (ms : List ℕ). with_memory ms s) (copied_all end xs s.memory same)
+
+-- ---- a state whose frames and place are those of a save
+
+frames_prompted : (fs : List Frame) (s : State) → (with_frames fs s).prompted ≡ s.prompted
+frames_prompted [] s = refl
+frames_prompted (f ∷ fs) s = refl
+
+module _ (story : LoadedStory) (saved : Saved) (x s : State) (is : s ≡ resumed story saved x) where
+  pub taken_unprompted : s.prompted ≡ false
+  taken_unprompted = ap (λ (t : State). t.prompted) is ∙ frames_prompted (map taken_frame (reverse saved.frames)) _
+
+  module _ (memory : List ℕ) (size : length memory ≡ length story.memory) (sound : IsSound story.memory) (is_saved : IsSaved story saved) where
+    pub taken_size : length s.memory ≡ length memory
+    taken_size = ap (λ (t : State). length t.memory) is ∙ resumed_size story saved x sound is_saved ∙ sym size
+
+    pub taken_rest : (end : ℕ) → end ≡ static_base story → drop (static_base story) memory ≡ drop (static_base story) story.memory → drop end s.memory ≡ drop end memory
+    taken_rest end is_end loaded =
+        ap (λ (n : ℕ). drop n s.memory) is_end ∙ ap (λ (t : State). drop (static_base story) t.memory) is ∙ resumed_loaded story saved x sound is_saved ∙ sym loaded ∙ ap (λ (n : ℕ). drop n memory) (sym is_end)
