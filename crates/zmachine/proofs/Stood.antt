@@ -1,9 +1,10 @@
 -- A board in another state of its story.
-use Rattle.std.proofs.Common.{◌≡◌, ℕ, zero, suc, ◌+◌, ◌%◌, ◌<◌, ◌≤◌, false, List, [], ◌∷◌, ◌++◌, length, drop, map, reverse, take, Ok, Err, refl, sym, ap, subst, ◌∙◌, arith}
+use Rattle.std.proofs.Common.{◌≡◌, ℕ, zero, suc, ◌+◌, ◌%◌, ◌<◌, ◌≤◌, true, false, add-one, Some, List, [], ◌∷◌, ◌++◌, length, drop, map, reverse, take, Ok, Err, refl, sym, ap, subst, ◌∙◌, arith}
 use Rattle.std.specs.Prelude.{ℤ, pos, ◌+ℤ◌, ◌-ℤ◌, Result, slice_index, slice_set}
 use Rattle.std.proofs.lemmas.Int.{ints}
 use Rattle.std.proofs.Math.Nat.{mod-eq_of_lt}
 use Rattle.std.proofs.lemmas.List.{length-append, length-drop, length-map, length-reverse, length-take-le, map-append, reverse-append, reverse-reverse, take-append-drop}
+use Rattle.zfault.specs.declared.event.Event.TheVariants as events
 use Rattle.zquetzal.specs.Reading.{reading}
 use Rattle.zquetzal.specs.declared.error.SaveError.{SaveError}
 use Rattle.zquetzal.specs.declared.limits.TheConstants.{MOST_FRAMES}
@@ -11,9 +12,10 @@ use Rattle.zquetzal.specs.Saved.{Frame as SavedFrame, IsSaved, Saved, origin_of}
 use Rattle.zquetzal.specs.Grammar.{save_text}
 use Rattle.zstory.specs.LoadedStory.{IsSound, LoadedStory, static_base}
 use Rattle.zstate.specs.Saved.{CanBeSaved}
-use Rattle.zstate.specs.Saves.{StatesAreSaved, kept_frame, resumed, save_place, saved_of, taken_frame, with_frames}
-use Rattle.zstate.specs.State.{Frame, IsState, Setting, State, most_limit, with_memory}
+use Rattle.zstate.specs.Saves.{StatesAreSaved, kept_frame, resumed, save_place, saved_of, taken_frame, taken_memory, with_frames}
+use Rattle.zstate.specs.State.{Frame, IsState, Setting, State, keeping_flags, most_limit, with_memory}
 use Rattle.zengine.specs.declared.board.Board.{Board}
+use Rattle.zengine.specs.declared.outside.Outside.{Outside}
 use Rattle.zengine.specs.declared.row.Row.{Row}
 use Rattle.zengine.specs.Body.{Body, spot_at, standing}
 use Rattle.zengine.specs.Frames.{AreFrames}
@@ -55,10 +57,18 @@ resumed_again story s x inside =
     ap (λ (fs : List Frame). with_rest (with_frames fs base)) (frames_again (s.frame ∷ s.callers)) ∙ ap (λ (place : ℤ). record s { place = place }) (place_again story s inside.0 inside.1)
   where
     base : State
-    base = record x { memory = s.memory; place = save_place (saved_of story s); prompted = s.prompted; waiting = s.waiting }
+    base = record x { memory = keeping_flags x.memory (taken_memory story (saved_of story s).memory); place = save_place (saved_of story s); prompted = false; waiting = Some (events.Saved true) }
 
     with_rest : State → State
     with_rest t = record t { memory = s.memory; random = s.random; prompted = s.prompted; waiting = s.waiting }
+
+-- taken for what comes from outside as it is
+pub taken_again : (story : LoadedStory) (s x : State) (saved : Saved) (memory : List ℕ) (o : Outside) → saved ≡ saved_of story s → IsInside s → memory ≡ s.memory → o ≡ record { random = s.random; prompted = s.prompted; waiting = s.waiting } → record (resumed story saved x) { memory = memory; random = o.random; prompted = o.prompted; waiting = o.waiting } ≡ s
+taken_again story s x saved memory o is inside memory_is outside_is =
+    ap (λ (k : Saved). record (resumed story k x) { memory = memory; random = o.random; prompted = o.prompted; waiting = o.waiting }) is
+    ∙ ap (λ (ms : List ℕ). record (resumed story (saved_of story s) x) { memory = ms; random = o.random; prompted = o.prompted; waiting = o.waiting }) memory_is
+    ∙ ap (λ (p : Outside). record (resumed story (saved_of story s) x) { memory = s.memory; random = p.random; prompted = p.prompted; waiting = p.waiting }) outside_is
+    ∙ resumed_again story s x inside
 
 -- ---- the board
 
@@ -113,11 +123,14 @@ few_saved limit story s saved is state =
 
 -- ---- memory that is copied byte by byte
 
+copied_next : (k : ℕ) (xs ys : List ℕ) → k < length xs → k < length ys → slice_set (take k xs ++ drop k ys) k (slice_index xs k) ≡ take (suc k) xs ++ drop (suc k) ys
+copied_next k [] ys below under = absurd (omega (arith, below))
+copied_next k (x ∷ xs) [] below under = absurd (omega (arith, under))
+copied_next zero (x ∷ xs) (y ∷ ys) below under = refl
+copied_next (suc k) (x ∷ xs) (y ∷ ys) below under = ap (λ (zs : List ℕ). x ∷ zs) (copied_next k xs ys (omega (arith, below)) (omega (arith, under)))
+
 pub copied_more : (k : ℕ) (xs ys : List ℕ) → k < length xs → k < length ys → slice_set (take k xs ++ drop k ys) k (slice_index xs k) ≡ take (k + 1) xs ++ drop (k + 1) ys
-copied_more k [] ys below under = absurd (omega (arith, below))
-copied_more k (x ∷ xs) [] below under = absurd (omega (arith, under))
-copied_more zero (x ∷ xs) (y ∷ ys) below under = refl
-copied_more (suc k) (x ∷ xs) (y ∷ ys) below under = ap (λ (zs : List ℕ). x ∷ zs) (copied_more k xs ys (omega (arith, below)) (omega (arith, under)))
+copied_more k xs ys below under = rw add-one (copied_next k xs ys below under)
 
 pub copied_all : (n : ℕ) (xs ys : List ℕ) → drop n ys ≡ drop n xs → take n xs ++ drop n ys ≡ xs
 copied_all n xs ys same = ap (λ (zs : List ℕ). take n xs ++ zs) same ∙ take-append-drop n xs
