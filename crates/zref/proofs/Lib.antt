@@ -1,3 +1,3 @@
 pub mod Running
-pub mod Excusing
+pub mod Excused
 mod Worked

@@ -1,9 +1,10 @@
 -- Where a fault may be excused, and what the lenient step is there.
-use Rattle.std.proofs.Common.{◌≡◌, ◌∙◌, ℕ, ◌<◌, ◌≤◌, List, drop, length, Bool, true, false, Result, Err, refl, sym, ap, if◌then◌else◌}
+use Rattle.std.proofs.Common.{◌≡◌, ◌∙◌, ℕ, ◌<◌, ◌≤◌, List, [], drop, length, Bool, true, false, Result, Ok, Err, refl, sym, ap, subst, if◌then◌else◌}
 use Rattle.std.specs.Prelude.{ℤ, pos, negsuc}
 use Rattle.std.proofs.lemmas.Bool.{ltb-true, ltb-false}
 use Rattle.zfault.specs.declared.fault.Fault.{Fault}
 use Rattle.zfault.specs.declared.fault.Fault.TheVariants.{IllegalOpcode, UnlistedInstruction}
+use Rattle.zstory.specs.LoadedStory.{LoadedStory}
 use Rattle.zcode.proofs.ReadingLaws.{nothing_past}
 use Rattle.zstate.specs.declared.halt.Halt.{Halt}
 use Rattle.zstate.specs.declared.halt.Halt.TheVariants as halts
@@ -11,6 +12,8 @@ use Rattle.zstate.specs.State.{Scope, Setting, State, fault}
 use Rattle.zstate.specs.Step.{Done, fetch, plan, step}
 use Rattle.zmachine.specs.Parts.{IsInside}
 use Rattle.zlenient.specs.declared.front.Front.{Front}
+use Rattle.zlenient.specs.declared.excusing.Unexcused.{Unexcused}
+use Rattle.zlenient.specs.Answer.{IsExcused}
 use Rattle.zlenient.specs.Customary.{is_excusable}
 use Rattle.zlenient.specs.Front.{front_after, front_at}
 use Rattle.zlenient.specs.Step.{instead, is_listed_at, is_within, lenient_fetch, lenient_step, plan_instead}
@@ -80,3 +83,19 @@ place_inside (negsuc k) n e = absurd cc
 
 pub is_inside : (s : State) → is_within s.place (length s.memory) ≡ true → IsInside s
 is_inside s e = place_inside s.place (length s.memory) e
+
+-- ---- what came of it
+
+-- where it was asked of a state that is the machine's
+pub came_of_it : (m : Setting) (s t : State) (f : Fault) (story : LoadedStory) → step m s ≡ Err (halts.Fault f) → is_excusable f ≡ true → m.story ≡ story → t ≡ s → (r : Result (Unit {0}) Unexcused) (u : State) → ((n : Setting) → n.story ≡ story → is_listed_at n.scope t.place ≡ true → IsExcused (instead n f t) r t u) → IsExcused (lenient_step m s) r s u
+came_of_it m s t f story e able own same r u done =
+    let listed = subst (λ (x : State). is_listed_at m.scope x.place ≡ true) (sym same) (listed_there m s f e able) in
+    subst (λ (d : Result Done Halt). IsExcused d r s u) (sym (step_excused m s f e able)) (subst (λ (x : State). IsExcused (instead m f x) r x u) same (done m own listed))
+
+-- the step that was made
+abbrev pub made_to : State → Result Done Halt
+made_to t = Ok (record { state = t; items = [] })
+
+pub front_came : (m : Setting) (s t : State) (f : Fault) (story : LoadedStory) (old new : Front) → step m s ≡ Err (halts.Fault f) → m.story ≡ story → t ≡ s → new ≡ front_at story t t.place old → new ≡ front_after m s old
+front_came m s t f story old new e own same is =
+    is ∙ ap (λ (x : LoadedStory). front_at x t t.place old) (sym own) ∙ ap (λ (y : State). front_at m.story y y.place old) same ∙ sym (front_excused m s f old e)
