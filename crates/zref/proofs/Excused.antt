@@ -17,7 +17,6 @@ use Rattle.zlenient.specs.Answer.{IsExcused}
 use Rattle.zlenient.specs.Customary.{is_excusable}
 use Rattle.zlenient.specs.Front.{front_after, front_at}
 use Rattle.zlenient.specs.Step.{instead, is_listed_at, is_within, lenient_fetch, lenient_step, plan_instead}
-use Rattle.zlenient.proofs.Answering.{others_stay}
 
 -- a step that is a fault
 abbrev faulty : Fault → Result Done Halt
@@ -59,6 +58,10 @@ listed_there m s f e able = by (is_listed_at m.scope s.place) refl
 
 -- ---- the lenient step
 
+-- a fault for which nothing is customary stays one
+pub step_unexcused : (m : Setting) (s : State) (f : Fault) → step m s ≡ Err (halts.Fault f) → is_excusable f ≡ false → lenient_step m s ≡ Err (halts.Fault f)
+step_unexcused m s f e none = rw (e, none) refl
+
 pub step_excused : (m : Setting) (s : State) (f : Fault) → step m s ≡ Err (halts.Fault f) → is_excusable f ≡ true → lenient_step m s ≡ instead m f s
 step_excused m s f e able = rw (e, able) refl
 
@@ -66,7 +69,7 @@ pub step_outside : (m : Setting) (s : State) (f : Fault) → step m s ≡ Err (h
 step_outside m s f e out = by (is_excusable f) refl
   where
     by : (b : Bool) → is_excusable f ≡ b → lenient_step m s ≡ Err (halts.Fault f)
-    by false none = others_stay m s f e none
+    by false none = step_unexcused m s f e none
     by true able =
         let fetched = fetch_outside m.scope s.place s.memory (listed_there m s f e able) out in
         let same : f ≡ IllegalOpcode = same_fault f IllegalOpcode (sym e ∙ unfetched m s (halts.Fault IllegalOpcode) fetched.0) in

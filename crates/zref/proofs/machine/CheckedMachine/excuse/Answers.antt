@@ -3,16 +3,15 @@ use Rattle.zstory.specs.LoadedStory.{LoadedStory}
 use Rattle.zstate.specs.State.{IsState, Setting, State}
 use Rattle.zmachine.specs.Parts.{IsInside}
 use Rattle.zlenient.specs.declared.excusing.Unexcused.TheVariants as unexcused
-use Rattle.zlenient.proofs.Answering.{others_stay}
 use Rattle.zref.specs.Machine.{Machine, setting}
-use Rattle.zref.proofs.Excused.{came_of_it, front_came, is_inside, made_to, step_outside}
+use Rattle.zref.proofs.Excused.{came_of_it, front_came, is_inside, made_to, step_outside, step_unexcused}
 use Rattle.zref.proofs.machine.CheckedMachine.excuse.Goals as goal
 use Rattle.zref.proofs.machine.CheckedMachine.excuse.Goals.{then-not-is_excusable-via-then-not-is_excusable, then-not-is_excusable-via-else-not-is_excusable+then-not-is_inside}
 
 pub returns-then-not-is_excusable-clause-excuses : goal.returns-then-not-is_excusable-clause-excuses
 returns-then-not-is_excusable-clause-excuses c =
     elim c.then-not-is_excusable.branch [
-      | then-not-is_excusable-via-then-not-is_excusable w ↦ (let none : c.is_excusable.result ≡ false = search rules in (others_stay (setting c.args.self.now) c.args.self.now.state c.args.fault c.requires (sym c.is_excusable.ensures ∙ none), refl, refl, refl))
+      | then-not-is_excusable-via-then-not-is_excusable w ↦ (let none : c.is_excusable.result ≡ false = search rules in (step_unexcused (setting c.args.self.now) c.args.self.now.state c.args.fault c.requires (sym c.is_excusable.ensures ∙ none), refl, refl, refl))
       | then-not-is_excusable-via-else-not-is_excusable+then-not-is_inside w ↦ (let out : w.is_inside.result ≡ false = search rules in (step_outside (setting c.args.self.now) c.args.self.now.state c.args.fault c.requires (sym w.is_inside.ensures ∙ out), refl, refl, refl))
     ]
 
