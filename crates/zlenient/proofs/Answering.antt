@@ -1,5 +1,5 @@
 -- What is done in lenient play where a step is a fault is what the table has for it.
-use Rattle.std.proofs.Common.{◌≡◌, ◌⊎◌, inl, inr, ℕ, drop, length, Option, Some, None, Bool, true, false, List, Result, Ok, Err, refl, sym, ap, subst, ◌∙◌, if◌then◌else◌}
+use Rattle.std.proofs.Common.{◌≡◌, ◌⊎◌, inl, inr, drop, length, Option, Some, None, Bool, true, false, Result, Ok, Err, refl, sym, ap, subst, ◌∙◌, if◌then◌else◌}
 use Rattle.std.specs.Prelude.{ℤ, pos, negsuc}
 use Rattle.zfault.specs.declared.fault.Fault.{Fault}
 use Rattle.zfault.specs.declared.fault.Fault.TheVariants.{UnlistedInstruction}
@@ -10,7 +10,6 @@ use Rattle.zcode.specs.Operation.{inputs, operation_of}
 use Rattle.zcode.specs.Reading.{instruction_at}
 use Rattle.zstate.specs.declared.halt.Halt.{Halt}
 use Rattle.zstate.specs.declared.halt.Halt.TheVariants as halts
-use Rattle.zstate.specs.InTurn.{◌>>=◌}
 use Rattle.zstate.specs.State.{Scope, Setting, State, fault, read_operands}
 use Rattle.zstate.specs.Step.{Done, Effect, came, decoded, fetch, items_of, settle, step}
 use Rattle.zstate.proofs.Steps.{bind_ok, ok_is}

@@ -1,6 +1,6 @@
 -- What came of an answer, over plain variables.
-use Rattle.std.proofs.Common.{◌≡◌, ℕ, ◌+◌, ◌<◌, ◌≤◌, drop, length, Bool, true, false, List, [], Option, Some, None, Result, Ok, Err, refl, sym, ap, subst, ◌∙◌, arith, if◌then◌else◌}
-use Rattle.std.specs.Prelude.{ℤ, pos, negsuc, ◌+ℤ◌, ◌≤ℤ◌}
+use Rattle.std.proofs.Common.{◌≡◌, ℕ, ◌+◌, ◌≤◌, drop, length, Bool, true, false, List, [], Option, Some, None, Result, Ok, Err, refl, sym, ap, subst, ◌∙◌, arith, if◌then◌else◌}
+use Rattle.std.specs.Prelude.{ℤ, pos, negsuc}
 use Rattle.std.proofs.lemmas.Int.{ints}
 use Rattle.zfault.specs.declared.fault.Fault.{Fault}
 use Rattle.zfault.specs.declared.fault.Fault.TheVariants.{UnlistedInstruction}
@@ -12,7 +12,6 @@ use Rattle.zcode.specs.Instruction.{Instruction}
 use Rattle.zcode.specs.Operation.{inputs, operation_of}
 use Rattle.zcode.specs.Reading.{instruction_at}
 use Rattle.zstate.specs.declared.halt.Halt.{Halt}
-use Rattle.zstate.specs.declared.halt.Halt.TheVariants as halts
 use Rattle.zstate.specs.InTurn.{◌>>=◌}
 use Rattle.zstate.specs.State.{Scope, Setting, State, fault, popped, read_operands}
 use Rattle.zstate.specs.Step.{Done, Effect, act, came, course, decoded, fetch, items_of, settle}

@@ -1,20 +1,16 @@
 -- An answer leads from a state to a state, and leaves static memory as it is.
-use Rattle.std.proofs.Common.{◌≡◌, ℕ, zero, suc, ◌+◌, ◌*◌, ◌-◌, ◌/◌, ◌%◌, ◌<◌, ◌≤◌, nat_lt, drop, slice_set, Option, Some, None, Bool, true, false, List, [], ◌∷◌, length, Ok, refl, sym, ap, subst, ◌∙◌, arith, inl, inr, if◌then◌else◌}
-use Rattle.std.specs.Prelude.{◌==◌, ◌||◌, not, is_some, IfSome, pos, ◌^◌, ◌+ℤ◌, slice_index}
+use Rattle.std.proofs.Common.{◌≡◌, ℕ, zero, suc, ◌+◌, ◌-◌, ◌/◌, ◌%◌, ◌<◌, ◌≤◌, nat_lt, drop, slice_set, Option, Some, None, Bool, true, false, List, [], ◌∷◌, length, Ok, refl, sym, ap, subst, ◌∙◌, arith, inl, inr, if◌then◌else◌}
+use Rattle.std.specs.Prelude.{◌==◌, ◌||◌, not, is_some, IfSome, pos, ◌^◌, slice_index}
 use Rattle.std.proofs.lemmas.Bool.{cases_lt, ltb-true, ltb-false}
 use Rattle.std.proofs.lemmas.Bool.Decides.{eqb_tells}
 use Rattle.std.proofs.lemmas.List.{drop-set-lt, get_or-drop, get_or-set_same, get_or-set_other, get_or_past, length-drop, length-set}
-use Rattle.zobj.specs.Entries.{HasTable}
 use Rattle.zobj.proofs.Tables.{table_put, table_stays}
-use Rattle.zstory.specs.Bytes.{AreBytes}
 use Rattle.zstory.specs.LoadedStory.{LoadedStory, globals, static_base}
 use Rattle.zcode.specs.Instruction.{Instruction}
 use Rattle.zcode.specs.Operation.{target}
-use Rattle.zstate.specs.declared.halt.Halt.{Halt}
 use Rattle.zstate.specs.declared.halt.Halt.TheVariants as halts
-use Rattle.zstate.specs.InTurn.{◌>>=◌}
 use Rattle.zstate.specs.State.{AreFrames, AreWords, Frame, IsFirst, IsFrame, IsState, State, global, has_room, popped, put, put_named, with_locals, with_memory, with_stack, write_word}
-use Rattle.zstate.specs.Step.{Move, act, admits, advance, asked, back, changed, course, is_roomy, left, moved, on, pauses, settle, stored}
+use Rattle.zstate.specs.Step.{Move, act, admits, advance, asked, back, changed, course, is_roomy, left, moved, pauses, settle, stored}
 use Rattle.zstate.proofs.Steps.{bind_ok}
 use Rattle.zstate.proofs.Effects.{asked_true}
 use Rattle.zlenient.specs.declared.settling.Course.{Course}

@@ -1,5 +1,5 @@
 -- No more is noted than steps are made.
-use Rattle.std.proofs.Common.{◌≡◌, ◌≤◌, ℕ, zero, suc, List, [], ◌∷◌, ◌++◌, length, Option, Some, None, Result, Ok, Err, refl, arith}
+use Rattle.std.proofs.Common.{◌≤◌, ℕ, zero, suc, List, [], ◌∷◌, length, Option, Some, None, Result, Ok, Err, arith}
 use Rattle.std.specs.Prelude.{ℤ}
 use Rattle.std.proofs.lemmas.List.{length-append}
 use Rattle.zfault.specs.declared.pause.Pause.TheVariants as pauses
@@ -12,7 +12,7 @@ use Rattle.zstate.specs.Run.{Input, handed, stop_of}
 use Rattle.zlenient.specs.declared.front.Front.{Front}
 use Rattle.zlenient.specs.Front.{front_after, seen}
 use Rattle.zlenient.specs.Step.{lenient_step}
-use Rattle.zlenient.specs.Run.{Note, Played, behind, lenient_run, lenient_until, leniently, noted, or_stands, stands}
+use Rattle.zlenient.specs.Run.{Played, behind, lenient_run, lenient_until, leniently, noted, or_stands, stands}
 
 -- of a step one is noted, or none
 one_noted : (r : Result Done Halt) (place : ℤ) → length (noted r place) ≤ 1

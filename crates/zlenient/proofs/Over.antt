@@ -1,6 +1,6 @@
 -- What is passed over, over plain variables.
-use Rattle.std.proofs.Common.{◌≡◌, ℕ, ◌+◌, ◌-◌, ◌<◌, ◌≤◌, drop, length, Bool, true, false, List, [], ◌∷◌, ◌++◌, Option, Some, None, Result, Ok, Err, refl, sym, ap, subst, ◌∙◌, arith, inl, inr, if◌then◌else◌}
-use Rattle.std.specs.Prelude.{ℤ, pos, negsuc, ◌+ℤ◌, ◌≤ℤ◌}
+use Rattle.std.proofs.Common.{◌≡◌, ℕ, ◌+◌, ◌<◌, ◌≤◌, drop, length, true, List, Some, None, Result, Ok, Err, refl, sym, ap, subst, ◌∙◌, arith, inl, inr, if◌then◌else◌}
+use Rattle.std.specs.Prelude.{ℤ, pos, negsuc}
 use Rattle.std.proofs.lemmas.Bool.{cases_lt}
 use Rattle.std.proofs.lemmas.Int.{ints}
 use Rattle.std.proofs.lemmas.List.{append-nil, length-drop}
@@ -16,14 +16,13 @@ use Rattle.zcode.specs.Operation.{inputs, operation_of}
 use Rattle.zcode.specs.Reading.{instruction_at}
 use Rattle.zcode.proofs.ReadingLaws.{nothing_past}
 use Rattle.zstate.specs.declared.halt.Halt.{Halt}
-use Rattle.zstate.specs.declared.halt.Halt.TheVariants as halts
 use Rattle.zstate.specs.InTurn.{◌>>=◌}
 use Rattle.zstate.specs.State.{Scope, Setting, State, fault, popped, read_operands}
-use Rattle.zstate.specs.Step.{Done, Effect, act, admits, came, course, decoded, fetch, items_of, pauses, proceeds, settle}
+use Rattle.zstate.specs.Step.{Effect, admits, came, course, decoded, fetch, items_of, pauses, settle}
 use Rattle.zlenient.specs.declared.front.Front.{Front}
 use Rattle.zlenient.specs.declared.settling.Course.{Course}
 use Rattle.zlenient.specs.declared.settling.Course.TheVariants.{On}
-use Rattle.zlenient.specs.Answer.{EndsBy, IsOpenWay, IsShortWay, done_instead, effect_with, move_of}
+use Rattle.zlenient.specs.Answer.{IsOpenWay, IsShortWay, done_instead, effect_with, move_of}
 use Rattle.zlenient.specs.Customary.{customary}
 use Rattle.zlenient.specs.Front.{front_at, turned_by}
 use Rattle.zlenient.specs.Nops.{nop_of}

@@ -1,5 +1,5 @@
 -- Lenient steps and what is customary, computed.
-use Rattle.std.proofs.Common.{◌≡◌, ℕ, true, false, List, [], ◌∷◌, ◌++◌, replicate, slice_set, Option, Some, None, Result, Ok, Err, pos, refl}
+use Rattle.std.proofs.Common.{◌≡◌, ℕ, true, false, List, [], ◌∷◌, ◌++◌, replicate, slice_set, Option, Some, None, Ok, Err, pos, refl}
 use Rattle.zarray.specs.declared.width.Width.TheVariants.{Byte, Word}
 use Rattle.zobj.specs.declared.answers.PropertyQuestion.TheVariants.{Value, Address, Next}
 use Rattle.zobj.specs.declared.tree.Link.TheVariants.{Parent, Child}
@@ -7,7 +7,7 @@ use Rattle.zobj.specs.Properties.{first_properties, after_number}
 use Rattle.zcode.specs.declared.operation.Operation.{Operation}
 use Rattle.zcode.specs.declared.operation.Operation.TheVariants as operations
 use Rattle.zcode.specs.Operation.{operation_of}
-use Rattle.zcode.specs.Reading.{instruction_at, head_at, long_head, short_head, variable_head, checked_head, operand_at, operands_at, store_if, branch_at, branch_if, text_if}
+use Rattle.zcode.specs.Reading.{instruction_at, head_at, long_head, variable_head, checked_head, operand_at, operands_at, store_if, branch_at, branch_if, text_if}
 use Rattle.zfault.specs.declared.fault.Fault.{Fault}
 use Rattle.zfault.specs.declared.fault.Fault.TheVariants.{IllegalOpcode, StackUnderflow, UnlistedCall, AbsentObject, AbsentAttribute, AbsentProperty, PropertyTooLong, ZeroDivisor, WriteOutside, ReadOutside, TextOutside, BadVariable}
 use Rattle.zfault.specs.declared.pause.Pause.TheVariants.{Budget}

@@ -1,5 +1,5 @@
 -- What is done in lenient play in the place of a fault: what interpreters customarily do there (own).
-use Rattle.std.specs.Prelude.{ℕ, ◌==◌, Bool, true, false, if◌then◌else◌, List, [], Option, Some, None}
+use Rattle.std.specs.Prelude.{ℕ, ◌==◌, Bool, true, false, if◌then◌else◌, List, Option, Some, None}
 use Rattle.zfault.specs.declared.fault.Fault.{Fault}
 use Rattle.zfault.specs.declared.fault.Fault.TheVariants.{IllegalOpcode, AbsentObject, AbsentAttribute, AbsentProperty, PropertyTooLong, ZeroDivisor, WriteOutside, ReadOutside, TextOutside}
 use Rattle.zstory.specs.Bytes.{word_at}

@@ -1,5 +1,5 @@
 -- Laws of lenient play.
-use Rattle.std.specs.Prelude.{◌≡◌, ◌⊎◌, ℕ, ◌≤◌, true, false, List, [], length, drop, Option, Some, Result, Ok, Err, ℤ, pos}
+use Rattle.std.specs.Prelude.{◌≡◌, ◌⊎◌, ℕ, ◌≤◌, true, false, List, [], length, drop, Some, Ok, Err, pos}
 use Rattle.zfault.specs.declared.fault.Fault.{Fault}
 use Rattle.zcode.specs.declared.error.DecodeError.TheVariants.{NotInProfile}
 use Rattle.zcode.specs.declared.opcode.Excluded.{Excluded}

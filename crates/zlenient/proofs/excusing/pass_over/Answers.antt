@@ -1,4 +1,4 @@
-use Rattle.std.proofs.Common.{◌≡◌, ◌∙◌, ◌≤◌, ◌<◌, ℕ, List, None, Ok, Err, ap, arith, drop, length, subst, sym, true, false, refl, rules}
+use Rattle.std.proofs.Common.{◌≡◌, ◌∙◌, ◌≤◌, ℕ, List, None, Ok, Err, ap, arith, drop, length, subst, sym, true, false, refl, rules}
 use Rattle.zcode.specs.declared.instr.Operand.{Operand}
 use Rattle.zstory.specs.LoadedStory.{static_base}
 use Rattle.zstate.specs.State.{IsState, State, popped, read_operands}
