@@ -1,6 +1,6 @@
 -- A board in another state of its story.
-use Rattle.std.proofs.Common.{◌≡◌, ℕ, zero, suc, ◌+◌, ◌%◌, ◌<◌, ◌≤◌, true, false, add-one, Some, List, [], ◌∷◌, ◌++◌, length, drop, map, reverse, take, Ok, Err, refl, sym, ap, subst, ◌∙◌, arith}
-use Rattle.std.specs.Prelude.{ℤ, pos, ◌+ℤ◌, ◌-ℤ◌, Result, slice_index, slice_set}
+use Rattle.std.proofs.Common.{◌≡◌, ℕ, zero, suc, ◌+◌, ◌%◌, ◌<◌, ◌≤◌, true, false, add-one, Some, List, [], ◌∷◌, ◌++◌, length, drop, map, reverse, take, Ok, refl, sym, ap, subst, ◌∙◌, arith}
+use Rattle.std.specs.Prelude.{ℤ, pos, ◌-ℤ◌, Result, slice_index, slice_set}
 use Rattle.std.proofs.lemmas.Int.{ints}
 use Rattle.std.proofs.Math.Nat.{mod-eq_of_lt}
 use Rattle.std.proofs.lemmas.List.{length-append, length-drop, length-map, length-reverse, length-take-le, map-append, reverse-append, reverse-reverse, take-append-drop}
@@ -8,12 +8,11 @@ use Rattle.zfault.specs.declared.event.Event.TheVariants as events
 use Rattle.zquetzal.specs.Reading.{reading}
 use Rattle.zquetzal.specs.declared.error.SaveError.{SaveError}
 use Rattle.zquetzal.specs.declared.limits.TheConstants.{MOST_FRAMES}
-use Rattle.zquetzal.specs.Saved.{Frame as SavedFrame, IsSaved, Saved, origin_of}
-use Rattle.zquetzal.specs.Grammar.{save_text}
+use Rattle.zquetzal.specs.Saved.{Frame as SavedFrame, IsSaved, Saved}
 use Rattle.zstory.specs.LoadedStory.{IsSound, LoadedStory, static_base}
 use Rattle.zstate.specs.Saved.{CanBeSaved}
 use Rattle.zstate.specs.Saves.{StatesAreSaved, kept_frame, resumed, save_place, saved_of, taken_frame, taken_memory, with_frames}
-use Rattle.zstate.specs.State.{Frame, IsState, Setting, State, keeping_flags, most_limit, with_memory}
+use Rattle.zstate.specs.State.{Frame, IsState, State, keeping_flags, with_memory}
 use Rattle.zengine.specs.declared.board.Board.{Board}
 use Rattle.zengine.specs.declared.outside.Outside.{Outside}
 use Rattle.zengine.specs.declared.row.Row.{Row}

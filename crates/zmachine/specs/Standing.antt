@@ -1,5 +1,5 @@
 -- A board that is put into another state.
-use Rattle.std.specs.Prelude.{ℕ, ◌<◌, List, length}
+use Rattle.std.specs.Prelude.{◌<◌, List, length}
 use Rattle.zengine.specs.declared.board.Board.{Board}
 use Rattle.zengine.specs.declared.row.Row.{Row}
 use Rattle.zengine.specs.Frames.{AreFrames}

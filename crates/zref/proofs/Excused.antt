@@ -1,5 +1,5 @@
 -- Where a fault may be excused, and what the lenient step is there.
-use Rattle.std.proofs.Common.{◌≡◌, ◌∙◌, ℕ, ◌<◌, ◌≤◌, List, [], drop, length, Bool, true, false, Result, Ok, Err, refl, sym, ap, subst, if◌then◌else◌}
+use Rattle.std.proofs.Common.{◌≡◌, ◌∙◌, ℕ, ◌<◌, List, [], length, Bool, true, false, Result, Ok, Err, refl, sym, ap, subst}
 use Rattle.std.specs.Prelude.{ℤ, pos, negsuc}
 use Rattle.std.proofs.lemmas.Bool.{ltb-true, ltb-false}
 use Rattle.zfault.specs.declared.fault.Fault.{Fault}
@@ -8,7 +8,7 @@ use Rattle.zstory.specs.LoadedStory.{LoadedStory}
 use Rattle.zcode.proofs.ReadingLaws.{nothing_past}
 use Rattle.zstate.specs.declared.halt.Halt.{Halt}
 use Rattle.zstate.specs.declared.halt.Halt.TheVariants as halts
-use Rattle.zstate.specs.State.{Scope, Setting, State, fault}
+use Rattle.zstate.specs.State.{Scope, Setting, State}
 use Rattle.zstate.specs.Step.{Done, fetch, plan, step}
 use Rattle.zmachine.specs.Parts.{IsInside}
 use Rattle.zlenient.specs.declared.front.Front.{Front}

@@ -1,4 +1,4 @@
-use Rattle.std.proofs.Common.{ap, subst, sym, refl, length, arith, rules, ◌∙◌, ◌≡◌, false}
+use Rattle.std.proofs.Common.{ap, subst, sym, refl, length, arith, ◌∙◌}
 use Rattle.zquetzal.specs.Saved.{IsSaved}
 use Rattle.zstate.specs.Saves.{resumed}
 use Rattle.zstory.specs.LoadedStory.{LoadedStory}
