@@ -1,13 +1,13 @@
 -- Values of the definitions, computed.
-use Rattle.std.proofs.Common.{◌≡◌, List, [], ◌∷◌, Bool, true, false, codes, refl}
-use Rattle.std.specs.Prelude.{IsSomeAnd, None, Some}
+use Rattle.std.proofs.Common.{◌≡◌, ℕ, List, [], ◌∷◌, Bool, true, false, codes, refl}
+use Rattle.std.specs.Prelude.{IsSomeAnd, None, Option, Some}
 use Rattle.std.specs.Char.{encode_utf8}
 use Rattle.std.specs.Str.{chars}
 use Rattle.clap.specs.Kinds.{Kinds}
 use Rattle.clap.specs.Words.{Text, subcommand_of, fault_of}
 use Rattle.clap.specs.Walk.{bundle_met, walked}
 use Rattle.clap.specs.Faults.{defaults_fault, flags_fault, walk_fault}
-use Rattle.zcommand.specs.CommandLine.{Asks, Request, ListStory, Find, FindEach, OneForMany, Check, CheckEach, Show, Play, Info, Explain, Unpack, number_in, zpc_app}
+use Rattle.zcommand.specs.CommandLine.{Asks, Front, Request, ListStory, Find, FindEach, OneForMany, Check, CheckEach, Show, Play, Info, Explain, Unpack, fitting_in, is_width, number_in, zpc_app}
 
 -- a number is below 2 to the 32nd, or to the 64th, and has digits alone behind one plus
 numbers :
@@ -15,18 +15,38 @@ numbers :
     × (number_in 64 (codes "4294967296") ≡ 4294967296) × (number_in 64 (codes "18446744073709551615") ≡ 18446744073709551615) × (number_in 64 (codes "18446744073709551616") ≡ 0)
 numbers = (refl, refl, refl, refl, refl, refl, refl, refl, refl, refl, refl)
 
+-- a width is from 1 to 1000
+widths :
+    (fitting_in is_width (codes "1") ≡ Some 1) × (fitting_in is_width (codes "+80") ≡ Some 80) × (fitting_in is_width (codes "1000") ≡ Some 1000) × (fitting_in is_width (codes "0") ≡ None) × (fitting_in is_width (codes "1001") ≡ None) × (fitting_in is_width (codes "66336") ≡ None) × (fitting_in is_width (codes "8o") ≡ None) × (fitting_in is_width [] ≡ None)
+widths = (refl, refl, refl, refl, refl, refl, refl, refl)
+
 -- words that ask for something
 abbrev Ask : List Text → Request → Type 0
 Ask words request = (fault_of zpc_app words ≡ []) × IsSomeAnd (subcommand_of zpc_app words) (λ matches. Asks matches request)
+
+-- how text is shown, and the files that lines go to and come from; with no words for them nothing is said
+abbrev front : Option ℕ → Option Text → Option Text → Front
+front width typed_to typed_before = record { width = width; typed_to = typed_to; typed_before = typed_before }
+
+abbrev plain : Front
+plain = front None None None
 
 asked :
     Ask (codes "list" ∷ codes "hello.z3" ∷ []) (ListStory (codes "hello.z3") None false)
     × Ask (codes "list" ∷ codes "hello.z3" ∷ codes "hello.cert" ∷ []) (ListStory (codes "hello.z3") (Some (codes "hello.cert")) false)
     × Ask (codes "list" ∷ codes "--json" ∷ codes "a.z3" ∷ []) (ListStory (codes "a.z3") None true)
-    × Ask (codes "play" ∷ codes "hello.z3" ∷ []) (Play (codes "hello.z3") None 1 1000000000 false None false false)
-    × Ask (codes "play" ∷ codes "--budget" ∷ codes "4294967295" ∷ codes "hello.z3" ∷ codes "hello.cert" ∷ codes "--status" ∷ codes "--seed" ∷ codes "18446744073709551615" ∷ []) (Play (codes "hello.z3") (Some (codes "hello.cert")) 18446744073709551615 4294967295 true None false false)
-    × Ask (codes "play" ∷ codes "--save" ∷ codes "a.qzl" ∷ codes "--tell" ∷ codes "--seed" ∷ codes "0" ∷ codes "--budget" ∷ codes "0" ∷ codes "hello.z3" ∷ []) (Play (codes "hello.z3") None 0 0 false (Some (codes "a.qzl")) true false)
-    × Ask (codes "play" ∷ codes "--force" ∷ codes "--save" ∷ codes "a.qzl" ∷ codes "hello.z3" ∷ []) (Play (codes "hello.z3") None 1 1000000000 false (Some (codes "a.qzl")) false true)
+    × Ask (codes "play" ∷ codes "hello.z3" ∷ []) (Play (codes "hello.z3") None 1 1000000000 false None false false plain)
+    × Ask (codes "play" ∷ codes "--budget" ∷ codes "4294967295" ∷ codes "hello.z3" ∷ codes "hello.cert" ∷ codes "--status" ∷ codes "--seed" ∷ codes "18446744073709551615" ∷ []) (Play (codes "hello.z3") (Some (codes "hello.cert")) 18446744073709551615 4294967295 true None false false plain)
+    × Ask (codes "play" ∷ codes "--save" ∷ codes "a.qzl" ∷ codes "--tell" ∷ codes "--seed" ∷ codes "0" ∷ codes "--budget" ∷ codes "0" ∷ codes "hello.z3" ∷ []) (Play (codes "hello.z3") None 0 0 false (Some (codes "a.qzl")) true false plain)
+    × Ask (codes "play" ∷ codes "--force" ∷ codes "--save" ∷ codes "a.qzl" ∷ codes "hello.z3" ∷ []) (Play (codes "hello.z3") None 1 1000000000 false (Some (codes "a.qzl")) false true plain)
+    × Ask (codes "play" ∷ codes "--width" ∷ codes "80" ∷ codes "a.z3" ∷ []) (Play (codes "a.z3") None 1 1000000000 false None false false (front (Some 80) None None))
+    × Ask (codes "play" ∷ codes "a.z3" ∷ codes "a.cert" ∷ codes "--width=1" ∷ []) (Play (codes "a.z3") (Some (codes "a.cert")) 1 1000000000 false None false false (front (Some 1) None None))
+    × Ask (codes "play" ∷ codes "a.z3" ∷ codes "--width" ∷ codes "1000" ∷ []) (Play (codes "a.z3") None 1 1000000000 false None false false (front (Some 1000) None None))
+    × Ask (codes "play" ∷ codes "--record" ∷ codes "a.txt" ∷ codes "a.z3" ∷ []) (Play (codes "a.z3") None 1 1000000000 false None false false (front None (Some (codes "a.txt")) None))
+    × Ask (codes "play" ∷ codes "a.z3" ∷ codes "--replay" ∷ codes "a.txt" ∷ []) (Play (codes "a.z3") None 1 1000000000 false None false false (front None None (Some (codes "a.txt"))))
+    × Ask (codes "play" ∷ codes "--replay" ∷ codes "a.txt" ∷ codes "--record" ∷ codes "b.txt" ∷ codes "a.z3" ∷ []) (Play (codes "a.z3") None 1 1000000000 false None false false (front None (Some (codes "b.txt")) (Some (codes "a.txt"))))
+    × Ask (codes "play" ∷ codes "--record" ∷ codes "b.txt" ∷ codes "--width" ∷ codes "40" ∷ codes "--replay" ∷ codes "a.txt" ∷ codes "a.z3" ∷ codes "a.cert" ∷ []) (Play (codes "a.z3") (Some (codes "a.cert")) 1 1000000000 false None false false (front (Some 40) (Some (codes "b.txt")) (Some (codes "a.txt"))))
+    × Ask (codes "play" ∷ codes "--save" ∷ codes "a.qzl" ∷ codes "--force" ∷ codes "--record" ∷ codes "a.txt" ∷ codes "a.z3" ∷ []) (Play (codes "a.z3") None 1 1000000000 false (Some (codes "a.qzl")) false true (front None (Some (codes "a.txt")) None))
     × Ask (codes "check" ∷ codes "hello.z3" ∷ codes "hello.cert" ∷ []) (Check (codes "hello.z3") (codes "hello.cert") false)
     × Ask (codes "check" ∷ codes "--json" ∷ codes "a" ∷ codes "b" ∷ []) (Check (codes "a") (codes "b") true)
     × Ask (codes "check" ∷ codes "hello.z3" ∷ []) (CheckEach (codes "hello.z3" ∷ []) false)
@@ -57,10 +77,10 @@ asked :
     × Ask (codes "unpack" ∷ codes "--force" ∷ codes "a.z3" ∷ codes "a.qzl" ∷ codes "b.qzl" ∷ []) (Unpack (codes "a.z3") (codes "a.qzl") (codes "b.qzl") true)
 unfolding walked bundle_met chars encode_utf8 flags_fault walk_fault defaults_fault
 asked =
-    ((refl, (refl, refl, refl, refl)), (refl, (refl, refl, refl, refl)), (refl, (refl, refl, refl, refl)), (refl, (refl, refl, refl, refl, refl, refl, refl, refl, refl)), (refl, (refl, refl, refl, refl, refl, refl, refl, refl, refl)), (refl, (refl, refl, refl, refl, refl, refl, refl, refl, refl)), (refl, (refl, refl, refl, refl, refl, refl, refl, refl, refl)), (refl, (refl, refl, refl)), (refl, (refl, refl, refl)), (refl, (refl, refl, refl, refl)), (refl, (refl, refl, refl, refl)), (refl, (refl, refl, refl, refl)), (refl, (refl, refl, refl, refl)), (refl, (refl, refl, refl, refl)), (refl, (refl, refl, refl, refl)), (refl, (refl, refl, (refl, refl, refl, refl, refl))), (refl, (refl, refl, (refl, refl, refl, refl, refl))), (refl, (refl, refl, (refl, refl, refl, refl, refl))), (refl, (refl, refl, (refl, refl, refl, refl, refl))), (refl, (refl, refl, (refl, refl, refl, refl, refl))), (refl, (refl, refl, (refl, refl, refl, refl, refl))), (refl, (refl, refl, (refl, refl, refl, refl, refl))), (refl, (refl, refl, (refl, refl, refl, refl, refl))), (refl, (refl, refl, refl, refl, (refl, refl, refl, refl, refl))), (refl, (refl, refl, refl, refl, (refl, refl, refl, refl, refl))), (refl, (refl, refl, refl, refl, (refl, refl, refl, refl, refl))), (refl, (refl, refl, refl)), (refl, (refl, refl, refl)), (refl, (refl, refl, refl)), (refl, (refl, refl, refl)), (refl, (refl, refl, refl)), (refl, (refl, refl, refl)), (refl, (refl, refl, refl)), (refl, (refl, refl, refl, refl, refl)), (refl, (refl, refl, refl, refl, refl)))
+    ((refl, (refl, refl, refl, refl)), (refl, (refl, refl, refl, refl)), (refl, (refl, refl, refl, refl)), (refl, (refl, refl, refl, refl, refl, refl, refl, refl, refl, refl)), (refl, (refl, refl, refl, refl, refl, refl, refl, refl, refl, refl)), (refl, (refl, refl, refl, refl, refl, refl, refl, refl, refl, refl)), (refl, (refl, refl, refl, refl, refl, refl, refl, refl, refl, refl)), (refl, (refl, refl, refl, refl, refl, refl, refl, refl, refl, refl)), (refl, (refl, refl, refl, refl, refl, refl, refl, refl, refl, refl)), (refl, (refl, refl, refl, refl, refl, refl, refl, refl, refl, refl)), (refl, (refl, refl, refl, refl, refl, refl, refl, refl, refl, refl)), (refl, (refl, refl, refl, refl, refl, refl, refl, refl, refl, refl)), (refl, (refl, refl, refl, refl, refl, refl, refl, refl, refl, refl)), (refl, (refl, refl, refl, refl, refl, refl, refl, refl, refl, refl)), (refl, (refl, refl, refl, refl, refl, refl, refl, refl, refl, refl)), (refl, (refl, refl, refl)), (refl, (refl, refl, refl)), (refl, (refl, refl, refl, refl)), (refl, (refl, refl, refl, refl)), (refl, (refl, refl, refl, refl)), (refl, (refl, refl, refl, refl)), (refl, (refl, refl, refl, refl)), (refl, (refl, refl, refl, refl)), (refl, (refl, refl, (refl, refl, refl, refl, refl))), (refl, (refl, refl, (refl, refl, refl, refl, refl))), (refl, (refl, refl, (refl, refl, refl, refl, refl))), (refl, (refl, refl, (refl, refl, refl, refl, refl))), (refl, (refl, refl, (refl, refl, refl, refl, refl))), (refl, (refl, refl, (refl, refl, refl, refl, refl))), (refl, (refl, refl, (refl, refl, refl, refl, refl))), (refl, (refl, refl, (refl, refl, refl, refl, refl))), (refl, (refl, refl, refl, refl, (refl, refl, refl, refl, refl))), (refl, (refl, refl, refl, refl, (refl, refl, refl, refl, refl))), (refl, (refl, refl, refl, refl, (refl, refl, refl, refl, refl))), (refl, (refl, refl, refl)), (refl, (refl, refl, refl)), (refl, (refl, refl, refl)), (refl, (refl, refl, refl)), (refl, (refl, refl, refl)), (refl, (refl, refl, refl)), (refl, (refl, refl, refl)), (refl, (refl, refl, refl, refl, refl)), (refl, (refl, refl, refl, refl, refl)))
 
 -- a command lacks a file or has too many, or there is none of the name, or none at all, or the budget is 2 to the 32nd or the
--- seed 2 to the 64th, or the flag has a value, or the option has none or an empty one, or is there twice
+-- seed 2 to the 64th, or the width isn't from 1 to 1000, or the flag has a value, or the option has none or an empty one, or is there twice
 is_wrong : Kinds → Bool
 is_wrong [] = false
 is_wrong (kind ∷ kinds) = true
@@ -95,5 +115,20 @@ wrong :
     × (is_wrong (fault_of zpc_app (codes "play" ∷ codes "hello.z3" ∷ codes "--save" ∷ [] ∷ [])) ≡ true)
     × (is_wrong (fault_of zpc_app (codes "play" ∷ codes "hello.z3" ∷ codes "--save=" ∷ [])) ≡ true)
     × (is_wrong (fault_of zpc_app (codes "play" ∷ codes "hello.z3" ∷ codes "--seed" ∷ codes "18446744073709551616" ∷ [])) ≡ true)
+    × (is_wrong (fault_of zpc_app (codes "play" ∷ codes "a.z3" ∷ codes "--width" ∷ codes "0" ∷ [])) ≡ true)
+    × (is_wrong (fault_of zpc_app (codes "play" ∷ codes "a.z3" ∷ codes "--width" ∷ codes "1001" ∷ [])) ≡ true)
+    × (is_wrong (fault_of zpc_app (codes "play" ∷ codes "a.z3" ∷ codes "--width" ∷ [])) ≡ true)
+    × (is_wrong (fault_of zpc_app (codes "play" ∷ codes "a.z3" ∷ codes "--width=" ∷ [])) ≡ true)
+    × (is_wrong (fault_of zpc_app (codes "play" ∷ codes "a.z3" ∷ codes "--width" ∷ codes "-1" ∷ [])) ≡ true)
+    × (is_wrong (fault_of zpc_app (codes "play" ∷ codes "a.z3" ∷ codes "--width" ∷ codes "80" ∷ codes "--width" ∷ codes "80" ∷ [])) ≡ true)
+    × (is_wrong (fault_of zpc_app (codes "play" ∷ codes "a.z3" ∷ codes "--record" ∷ [])) ≡ true)
+    × (is_wrong (fault_of zpc_app (codes "play" ∷ codes "a.z3" ∷ codes "--replay" ∷ [])) ≡ true)
+    × (is_wrong (fault_of zpc_app (codes "play" ∷ codes "a.z3" ∷ codes "--record=" ∷ [])) ≡ true)
+    × (is_wrong (fault_of zpc_app (codes "play" ∷ codes "a.z3" ∷ codes "--replay=" ∷ [])) ≡ true)
+    × (is_wrong (fault_of zpc_app (codes "play" ∷ codes "a.z3" ∷ codes "--record" ∷ codes "b" ∷ codes "--record" ∷ codes "c" ∷ [])) ≡ true)
+    × (is_wrong (fault_of zpc_app (codes "check" ∷ codes "a.z3" ∷ codes "--record" ∷ codes "b" ∷ [])) ≡ true)
+    × (is_wrong (fault_of zpc_app (codes "list" ∷ codes "a.z3" ∷ codes "--width" ∷ codes "80" ∷ [])) ≡ true)
+    × (is_wrong (fault_of zpc_app (codes "play" ∷ codes "a.z3" ∷ codes "--record" ∷ [] ∷ [])) ≡ true)
+    × (is_wrong (fault_of zpc_app (codes "play" ∷ codes "a.z3" ∷ codes "--replay" ∷ [] ∷ [])) ≡ true)
 unfolding is_wrong walked bundle_met chars encode_utf8 flags_fault walk_fault defaults_fault
-wrong = (refl, refl, refl, refl, refl, refl, refl, refl, refl, refl, refl, refl, refl, refl, refl, refl, refl, refl, refl, refl, refl, refl, refl, refl, refl, refl, refl, refl, refl)
+wrong = (refl, refl, refl, refl, refl, refl, refl, refl, refl, refl, refl, refl, refl, refl, refl, refl, refl, refl, refl, refl, refl, refl, refl, refl, refl, refl, refl, refl, refl, refl, refl, refl, refl, refl, refl, refl, refl, refl, refl, refl, refl, refl, refl, refl)

@@ -1,6 +1,6 @@
 -- The command line: which words the program takes, in the terms of clap's definitions, and what the matches that clap
 -- makes of them ask for (own).
-use Rattle.std.specs.Prelude.{◌≡◌, ◌⊎◌, ◌≤◌, ⊤, ℕ, ◌^◌, ◌&&◌, Bool, true, false, List, [], ◌∷◌, IfSome, Option, None, Some, nat_le, option_map, map, is_some, length, codes, if◌then◌else◌, nat_lt, pos, unwrap_or}
+use Rattle.std.specs.Prelude.{◌≡◌, ◌⊎◌, ◌≤◌, ◌<◌, ⊤, ℕ, ◌^◌, ◌&&◌, Bool, true, false, List, [], ◌∷◌, IfSome, Option, None, Some, nat_le, option_map, map, is_some, length, codes, if◌then◌else◌, nat_lt, pos, unwrap_or}
 use Rattle.std.specs.List.{list_all}
 use Rattle.std.specs.Option.{option_map_or}
 use Rattle.std.specs.Char.{digit_value}
@@ -12,6 +12,7 @@ use Rattle.clap.specs.declared.builder.value_parser.ValueParser.TheVariants as p
 use Rattle.zbatch.specs.Naming.{is_story_name}
 use Rattle.zcommand.specs.declared.words.Command.{Command}
 use Rattle.zcommand.specs.declared.words.Command.TheVariants as commands
+use Rattle.zcommand.specs.declared.words.Front.{Front as NamedFront}
 
 -- a word without a name before it, which has to be there or may be
 abbrev pub word_rule : Text → Bool → Rule
@@ -75,6 +76,18 @@ file_rule name = record (new_rule name) { long = Some name; value_names = 1; par
 abbrev pub save_rule : Rule
 save_rule = file_rule (codes "save")
 
+-- `--width N`, where N is from 1 to 1000
+abbrev pub width_rule : Rule
+width_rule = record (new_rule (codes "width")) { long = Some (codes "width"); value_names = 1; parser = Some (parsers.Signed (pos 1) (pos 1000)) }
+
+-- `--record FILE`
+abbrev pub record_rule : Rule
+record_rule = file_rule (codes "record")
+
+-- `--replay FILE`
+abbrev pub replay_rule : Rule
+replay_rule = file_rule (codes "replay")
+
 -- `CERT`, which has to be there or may be
 abbrev pub certificate_rule : Bool → Rule
 certificate_rule required = word_rule (codes "CERT") required
@@ -136,8 +149,12 @@ abbrev pub saveless_app : App
 saveless_app = with_rule (with_rule (with_rule (files_app (codes "play") false) seed_rule) budget_rule) status_rule
 
 -- the same with `--save FILE --tell --force`
+abbrev pub frontless_app : App
+frontless_app = with_rule (with_rule (with_rule saveless_app save_rule) tell_rule) force_rule
+
+-- the same with `--width N --record FILE --replay FILE`
 abbrev pub play_app : App
-play_app = with_rule (with_rule (with_rule saveless_app save_rule) tell_rule) force_rule
+play_app = with_rule (with_rule (with_rule frontless_app width_rule) record_rule) replay_rule
 
 -- `info STORY --json`
 abbrev pub info_app : App
@@ -198,20 +215,36 @@ seed_of rows = number_of 64 (codes "seed") rows
 abbrev pub budget_of : List Row → ℕ
 budget_of rows = number_of 32 (codes "budget") rows
 
+-- a limit of frames isn't above the greatest
+abbrev pub is_limit : ℕ → Bool
+is_limit n = nat_le n 4096
+
+-- a width is of one column at least, and of a thousand at most
+abbrev pub is_width : ℕ → Bool
+is_width n = nat_lt 0 n && nat_le n 1000
+
+-- a number, if it fits
+abbrev pub fitting : (ℕ → Bool) → ℕ → Option ℕ
+fitting fits n = if fits n then Some n else None
+
 -- a limit that isn't above the greatest
 abbrev pub low_limit : ℕ → Option ℕ
-low_limit n = if nat_le n 4096 then Some n else None
+low_limit = fitting is_limit
 
--- the limit that a text says so, if it says one and that isn't above the greatest
-abbrev pub limit_in : Text → Option ℕ
-limit_in text =
+-- the number that a text says so, if it says one and that fits
+abbrev pub fitting_in : (ℕ → Bool) → Text → Option ℕ
+fitting_in fits text =
     let digits = without_leading_plus text in
-    if nat_lt 0 (length digits) && list_all (λ d. nat_lt (digit_value d) 10) digits && nat_le (digits_value 10 digits) 4096
+    if nat_lt 0 (length digits) && list_all (λ d. nat_lt (digit_value d) 10) digits && fits (digits_value 10 digits)
     then Some (digits_value 10 digits) else None
 
 -- the limit of frames among the matches of `find`, if there is one
 abbrev pub frames_of : List Row → Option ℕ
-frames_of rows = option_map_or limit_in (one_of (codes "frames") rows) None
+frames_of rows = option_map_or (fitting_in is_limit) (one_of (codes "frames") rows) None
+
+-- the width of the text among the matches of `play`, if there is one
+abbrev pub width_of : List Row → Option ℕ
+width_of rows = option_map_or (fitting_in is_width) (one_of (codes "width") rows) None
 
 -- whether a flag is given among the matches: clap has `true` there where it is, and else `false`
 abbrev pub is_asked : Text → List Row → Bool
@@ -272,6 +305,27 @@ address_of rows = first_of (codes "ADDRESS") rows
 abbrev pub save_of : List Row → Option Text
 save_of rows = first_of (codes "save") rows
 
+-- the name of the file that the lines typed are kept in, if there is one
+abbrev pub record_of : List Row → Option Text
+record_of rows = first_of (codes "record") rows
+
+-- and of the one whose lines are read before those
+abbrev pub replay_of : List Row → Option Text
+replay_of rows = first_of (codes "replay") rows
+
+-- how a play shows its text, and the files that lines go to and come from
+pub record Front : Type 0 where
+  -- text is wrapped at so many columns
+  pub width : Option ℕ
+  -- the file that the lines typed are kept in
+  pub typed_to : Option Text
+  -- a file whose lines are read before those typed
+  pub typed_before : Option Text
+
+-- what the matches of `play` say of it
+abbrev pub front_of : List Row → Front
+front_of rows = record { width = width_of rows; typed_to = record_of rows; typed_before = replay_of rows }
+
 -- the code among the matches of `explain`, if there is one
 abbrev pub code_of : List Row → Option Text
 code_of rows = first_of (codes "CODE") rows
@@ -293,7 +347,7 @@ pub data Request : Type 0 where
   Check : (story certificate : Text) (json : Bool) → Request
   CheckEach : (stories : List Text) (json : Bool) → Request
   Show : (story certificate : Text) (address : Option Text) → Request
-  Play : (story : Text) (certificate : Option Text) (seed budget : ℕ) (status : Bool) (save : Option Text) (tell force : Bool) → Request
+  Play : (story : Text) (certificate : Option Text) (seed budget : ℕ) (status : Bool) (save : Option Text) (tell force : Bool) (front : Front) → Request
   Info : (story : Text) (json : Bool) → Request
   Explain : (code : Option Text) (json : Bool) → Request
   Unpack : (story save out : Text) (force : Bool) → Request
@@ -318,13 +372,18 @@ Asks matches (CheckEach stories json) =
     (matches.0 ≡ codes "check") × (pair_of (files_of matches.1) ≡ None) × (stories ≡ files_of matches.1) × (json ≡ is_json_asked matches.1)
 Asks matches (Show story certificate address) =
     (matches.0 ≡ codes "show") × (story ≡ story_of matches.1) × (certificate ≡ unwrap_or (certificate_of matches.1) []) × (address ≡ address_of matches.1)
-Asks matches (Play story certificate seed budget status save tell force) =
+Asks matches (Play story certificate seed budget status save tell force front) =
     (matches.0 ≡ codes "play") × (story ≡ story_of matches.1) × (certificate ≡ certificate_of matches.1) × (seed ≡ seed_of matches.1) × (budget ≡ budget_of matches.1)
     × (status ≡ is_status_asked matches.1) × (save ≡ save_of matches.1) × (tell ≡ is_tell_asked matches.1) × (force ≡ is_force_asked matches.1)
+    × (front ≡ front_of matches.1)
 Asks matches (Info story json) = (matches.0 ≡ codes "info") × (story ≡ story_of matches.1) × (json ≡ is_json_asked matches.1)
 Asks matches (Explain code json) = (matches.0 ≡ codes "explain") × (code ≡ code_of matches.1) × (json ≡ is_json_asked matches.1)
 Asks matches (Unpack story save out force) =
     (matches.0 ≡ codes "unpack") × (story ≡ story_of matches.1) × (save ≡ packed_of matches.1) × (out ≡ out_of matches.1) × (force ≡ is_force_asked matches.1)
+
+-- the same by the names of files
+abbrev pub front_named : NamedFront → Front
+front_named front = record { width = front.width; typed_to = option_map (λ f. f.now) front.record; typed_before = option_map (λ f. f.now) front.replay }
 
 -- what a command asks for
 abbrev pub request_of : Command → Request
@@ -335,7 +394,8 @@ request_of commands.OneForMany = OneForMany
 request_of (commands.Check story certificate json) = Check story.now certificate.now json
 request_of (commands.CheckEach stories json) = CheckEach (map (λ s. s.now) stories.now) json
 request_of (commands.Show story certificate address) = Show story.now certificate.now (option_map (λ a. a.now) address)
-request_of (commands.Play story certificate seed budget status save tell force) = Play story.now (option_map (λ c. c.now) certificate) seed budget status (option_map (λ f. f.now) save) tell force
+request_of (commands.Play story certificate seed budget status save tell force front) =
+    Play story.now (option_map (λ c. c.now) certificate) seed budget status (option_map (λ f. f.now) save) tell force (front_named front)
 request_of (commands.Info story json) = Info story.now json
 request_of (commands.Explain code json) = Explain (option_map (λ c. c.now) code) json
 request_of (commands.Unpack story save out force) = Unpack story.now save.now out.now force
@@ -344,8 +404,9 @@ request_of (commands.Unpack story save out force) = Unpack story.now save.now ou
 abbrev pub IsReadFrom : Text × List Row → Command → Type 0
 IsReadFrom matches command = Asks matches (request_of command)
 
--- it asks for no certificate with a limit of frames above the greatest
+-- it asks for no certificate with a limit of frames above the greatest, and for no width but one of 1 to 1000 columns
 abbrev pub IsLow : Command → Type 0
 IsLow (commands.Find story certificate frames strict places force json) = IfSome frames (λ n. n ≤ 4096)
 IsLow (commands.FindEach stories frames strict places force json) = IfSome frames (λ n. n ≤ 4096)
+IsLow (commands.Play story certificate seed budget status save tell force front) = IfSome front.width (λ n. (0 < n) × (n ≤ 1000))
 IsLow _ = ⊤

@@ -3,9 +3,9 @@
 ghost use Rattle.std.specs.Prelude.{◌≡◌, IfOk, false};
 ghost use Rattle.clap.specs.Words.{app_of, rule_of};
 ghost use Rattle.clap.specs.declared.builder.command.Command.TheViews.{out-Command as fields_of};
-ghost use Rattle.zcommand.specs.CommandLine.{frames_rule, framing_app, bare_app, budget_rule, certificate_rule, address_rule, certifying_app, check_app, code_rule, explain_app, file_rule, files_app, files_rule, find_app, force_rule, info_app, json_rule, list_app, many_app, naming_app, out_rule, output_rule, packed_rule, places_rule, play_app, playing_app, save_rule, saveless_app, seed_rule, show_app, status_rule, story_rule, strict_rule, tell_rule, unpack_app, word_rule, zpc_app};
+ghost use Rattle.zcommand.specs.CommandLine.{frames_rule, framing_app, bare_app, budget_rule, certificate_rule, address_rule, certifying_app, check_app, code_rule, explain_app, file_rule, files_app, files_rule, find_app, force_rule, info_app, json_rule, list_app, many_app, naming_app, out_rule, output_rule, packed_rule, places_rule, play_app, playing_app, frontless_app, record_rule, replay_rule, save_rule, saveless_app, seed_rule, show_app, status_rule, story_rule, strict_rule, tell_rule, unpack_app, width_rule, word_rule, zpc_app};
 
-use crate::words::MOST_FRAMES;
+use crate::words::{MOST_FRAMES, MOST_WIDTH};
 use clap::builder::ValueParser;
 use clap::{Arg, ArgAction, value_parser};
 use std::alloc::{AllocError, Global};
@@ -178,6 +178,15 @@ fn show<'a>(alloc: Global) -> Result<clap::Command<'a>, AllocError>
 
 fn play<'a>(alloc: Global) -> Result<clap::Command<'a>, AllocError>
     ensures app { IfOk result (λ play. app_of play ≡ play_app) }
+    ensures local { IfOk result (λ play. (fields_of play).has_globals ≡ false) }
+{
+    let play = frontless(alloc)?.arg(width(alloc))?;
+    play.arg(recorded(alloc))?.arg(replayed(alloc))
+}
+
+/// `play` without what is said of how text is shown and of the lines typed.
+fn frontless<'a>(alloc: Global) -> Result<clap::Command<'a>, AllocError>
+    ensures app { IfOk result (λ play. app_of play ≡ frontless_app) }
     ensures local { IfOk result (λ play. (fields_of play).has_globals ≡ false) }
 {
     let play = saveless(alloc)?.arg(save(alloc))?;
@@ -430,6 +439,33 @@ fn save<'a>(alloc: Global) -> Arg<'a>
     ensures local { result.global ≡ false }
 {
     kept_in(alloc, "save", "The file that saves are kept in", "FILE")
+}
+
+fn width<'a>(alloc: Global) -> Arg<'a>
+    ensures rule { rule_of result ≡ width_rule }
+    ensures local { result.global ≡ false }
+{
+    Arg::new(alloc, "width")
+        .long("width")
+        .help("Wraps text at so many columns, from 1 to 1000")
+        .value_name("N")
+        .value_parser(ValueParser::signed(1, i64::from(MOST_WIDTH)))
+}
+
+fn recorded<'a>(alloc: Global) -> Arg<'a>
+    ensures rule { rule_of result ≡ record_rule }
+    ensures local { result.global ≡ false }
+{
+    let help = "The file that the lines typed are kept in";
+    kept_in(alloc, "record", help, "FILE")
+}
+
+fn replayed<'a>(alloc: Global) -> Arg<'a>
+    ensures rule { rule_of result ≡ replay_rule }
+    ensures local { result.global ≡ false }
+{
+    let help = "A file whose lines are read before those typed";
+    kept_in(alloc, "replay", help, "FILE")
 }
 
 /// An option whose value is the name of a file, which isn't empty.

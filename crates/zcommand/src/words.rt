@@ -3,7 +3,7 @@
 ghost use Rattle.std.specs.Prelude.{◌≡◌, IfOk, IsSomeAnd, codes, false, map, option_and_then, option_map};
 ghost use Rattle.clap.specs.Walk.{texts};
 ghost use Rattle.clap.specs.Words.{FailsBy, fault_of, found_of, rows_of, subcommand_name_of, subcommand_of, subcommand_rows_of};
-ghost use Rattle.zcommand.specs.CommandLine.{IsCommand, IsLow, IsReadFrom, frames_of, low_limit, files_of, is_json_asked, pair_of, target_of, zpc_app};
+ghost use Rattle.zcommand.specs.CommandLine.{IsCommand, IsLow, IsReadFrom, files_of, fitting, frames_of, front_named, front_of, is_json_asked, is_width, low_limit, pair_of, target_of, width_of, zpc_app};
 
 use crate::commands::program;
 use clap::{ArgMatches, Error};
@@ -12,6 +12,20 @@ use zbatch::is_story_name;
 
 /// The greatest limit of frames that a certificate may name.
 pub(crate) const MOST_FRAMES: u16 = 4096;
+
+/// The most columns that text is wrapped at.
+pub(crate) const MOST_WIDTH: u16 = 1000;
+
+/// How a play shows its text, and the files that lines go to and come from.
+#[derive(Clone, Copy, Debug, PartialEq, Eq)]
+pub struct Front<'a> {
+    /// How many columns text is wrapped at, if it is.
+    pub width: Option<u16>,
+    /// The name of the file that the lines typed are kept in, if there is one.
+    pub record: Option<&'a str>,
+    /// The name of a file whose lines are read before those typed, if there is one.
+    pub replay: Option<&'a str>,
+}
 
 /// What the words ask for.
 #[derive(Clone, Copy, Debug, PartialEq, Eq)]
@@ -102,6 +116,8 @@ pub enum Command<'s, 'a> {
         tell: bool,
         /// Whether the file for saves may hold something else now.
         force: bool,
+        /// How text is shown, and the files that lines go to and come from.
+        front: Front<'a>,
     },
     /// Tells what a story says of itself, and what it has.
     Info {
@@ -144,7 +160,7 @@ pub fn read_words<'a>(alloc: Global, words: &'a [&'a str]) -> Result<ArgMatches<
 pub fn command_of<'s, 'a>(matches: &'s ArgMatches<'a>) -> Command<'s, 'a>
     requires { IsSomeAnd (subcommand_name_of matches.now) IsCommand }
     ensures read { IsSomeAnd (subcommand_rows_of matches.now) (λ matches. IsReadFrom matches result) }
-    // No certificate is asked for that names more frames than it may.
+    // No certificate is asked for that names more frames than it may, and no width but from 1 to the most.
     ensures low { IsLow result }
 {
     if let Some(list) = matches.subcommand_matches("list") {
@@ -331,6 +347,7 @@ fn play_of<'s, 'a>(matches: &'s ArgMatches<'a>) -> Command<'s, 'a>
     let save = matches.get_str("save");
     let tell = matches.get_one("tell").unwrap_or(false);
     let force = matches.get_one("force").unwrap_or(false);
+    let front = front_of(matches);
     Command::Play {
         story,
         certificate,
@@ -340,6 +357,42 @@ fn play_of<'s, 'a>(matches: &'s ArgMatches<'a>) -> Command<'s, 'a>
         save,
         tell,
         force,
+        front,
+    }
+}
+
+/// How text is shown, and the files that lines go to and come from, by the matches of `play`.
+fn front_of<'a>(matches: &ArgMatches<'a>) -> Front<'a>
+    ensures { front_named result ≡ front_of (rows_of (found_of matches.now)) }
+{
+    let width = width_of(matches);
+    let record = matches.get_str("record");
+    let replay = matches.get_str("replay");
+    Front {
+        width,
+        record,
+        replay,
+    }
+}
+
+/// The width among the matches of `play`, if there is one. clap lets none through that doesn't fit.
+fn width_of(matches: &ArgMatches<'_>) -> Option<u16>
+    ensures { result ≡ width_of (rows_of (found_of matches.now)) }
+{
+    fit_width(matches.get_one("width"))
+}
+
+/// The width, where it is of one column at least and isn't above the most.
+fn fit_width(width: Option<u16>) -> Option<u16>
+    ensures { result ≡ option_and_then (fitting is_width) width }
+{
+    let Some(width) = width else {
+        return None;
+    };
+    if width > 0 && width <= MOST_WIDTH {
+        Some(width)
+    } else {
+        None
     }
 }
 

@@ -72,8 +72,8 @@ module _ (words : List Text) (speech : Speech) (status : ℕ) (old new : Devices
 
 -- where no certificate was looked for and no save was refused, nothing is said
 pub says_none : (request : Request) (errors : Seen) → SaysFor request Unsought [] errors errors
-says_none (Play story None seed budget status save tell force) errors = (errors, refl, refl)
-says_none (Play story (Some certificate) seed budget status save tell force) errors = refl
+says_none (Play story None seed budget status save tell force front) errors = (errors, refl, refl)
+says_none (Play story (Some certificate) seed budget status save tell force front) errors = refl
 says_none (ListStory story certificate json) errors = refl
 says_none (Find story certificate frames strict places force json) errors = refl
 says_none (FindEach stories frames strict places force json) errors = refl

@@ -17,7 +17,7 @@ use Rattle.zcert.specs.Reading.{heading_at, magic_at, reading}
 use Rattle.zrule.specs.declared.rule.Rule.{Rule}
 use Rattle.zcheck.specs.Acceptance.{AcceptanceOver}
 use Rattle.zcheck.specs.declared.refusal.StoryRule.{StoryRule}
-use Rattle.zcommand.specs.CommandLine.{ListStory, Find, FindEach, Check, CheckEach, Play, Explain}
+use Rattle.zcommand.specs.CommandLine.{Front, ListStory, Find, FindEach, Check, CheckEach, Play, Explain}
 use Rattle.zref.specs.Machine.{setting_of}
 use Rattle.zref.specs.declared.scope.Scope.TheVariants.{All, Within}
 use Rattle.zplay.specs.Session.{setting_of as session_of}
@@ -186,10 +186,14 @@ each_told = (
     silent (between, same, inl takes) = absurd (let e = subst (λ (s : Seen). Appends s.contents (Some []) (line_of (refusal_text Compressed))) same takes.whole in cc)
     silent (between, same, inr breaks) = let f = ap (λ (s : Seen). s.failures) same in omega (arith, breaks.blamed, f)
 
+-- a play with no front: text isn't wrapped, and lines are neither kept nor replayed
+abbrev no_front : Front
+no_front = record { width = None; typed_to = None; typed_before = None }
+
 -- they are told where that is asked for and saves are in a file, and by plays alone
 told_where :
     (said_of true (Some (7 ∷ [])) (Length ∷ NotForm ∷ []) ≡ Length ∷ NotForm ∷ []) × (said_of false (Some (7 ∷ [])) (Length ∷ []) ≡ []) × (said_of true None (Length ∷ []) ≡ [])
-    × (said_by (Play (1 ∷ []) None 1 2 false (Some (7 ∷ [])) true false) (Length ∷ []) ≡ Length ∷ []) × (said_by (Play (1 ∷ []) None 1 2 true (Some (7 ∷ [])) false false) (Length ∷ []) ≡ []) × (said_by (Find (1 ∷ []) (2 ∷ []) None false false false false) (Length ∷ []) ≡ [])
+    × (said_by (Play (1 ∷ []) None 1 2 false (Some (7 ∷ [])) true false no_front) (Length ∷ []) ≡ Length ∷ []) × (said_by (Play (1 ∷ []) None 1 2 true (Some (7 ∷ [])) false false no_front) (Length ∷ []) ≡ []) × (said_by (Find (1 ∷ []) (2 ∷ []) None false false false false) (Length ∷ []) ≡ [])
 told_where = (refl, refl, refl, refl, refl, refl)
 
 -- want of memory is told, and nothing else is done
@@ -224,10 +228,10 @@ module _ (search : Search) (story certificate : List ℕ) (held later : Held) (i
   comes_of_each stories force json = (λ comes. comes, λ comes. comes, λ comes. comes, λ comes. comes)
 
   comes_of_plays :
-      (seed budget : ℕ) (status : Bool) (save : Option (List ℕ)) (tell force : Bool)
-      → (Comes (Play story None seed budget status save tell force) held later input aside [] before now outcome → PlaysBeside held later story save aside (record { budget = budget; status = status }) (given input seed (store_of save)) [] before now outcome)
-      × (Comes (Play story (Some certificate) seed budget status save tell force) held later input aside [] before now outcome → PlayComesTo (held.known story) (held.known certificate) (record { budget = budget; status = status }) (given input seed (store_of save)) [] before now outcome)
-  comes_of_plays seed budget status save tell force = (λ comes. comes, λ comes. comes)
+      (seed budget : ℕ) (status : Bool) (save : Option (List ℕ)) (tell force : Bool) (front : Front)
+      → (Comes (Play story None seed budget status save tell force front) held later input aside [] before now outcome → PlaysBeside held later story save aside (record { budget = budget; status = status }) (given input seed (store_of save)) [] before now outcome)
+      × (Comes (Play story (Some certificate) seed budget status save tell force front) held later input aside [] before now outcome → PlayComesTo (held.known story) (held.known certificate) (record { budget = budget; status = status }) (given input seed (store_of save)) [] before now outcome)
+  comes_of_plays seed budget status save tell force front = (λ comes. comes, λ comes. comes)
 
   -- with no certificate named a story is played by the one beside it only where it is accepted with that, and else with everything tested
   comes_beside :

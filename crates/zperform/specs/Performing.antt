@@ -97,7 +97,7 @@ pub record RefusesMany (held holds : List ℕ → Option (List ℕ)) (before now
 
 -- what comes of a request, with the files before and now, with the input, with what became of the certificate beside a story that is played
 -- with none named, with why saves were refused, the newest first, and with
--- what the writer took before and has taken now
+-- what the writer took before and has taken now. Open: a play's width, and its files of lines
 abbrev pub Comes : Request → Held → Held → Option (List ℕ) → Aside → List SaveError → Option (List ℕ) → Option (List ℕ) → Outcome → Type 0
 Comes (ListStory story None json) files later input aside refusals before now outcome = ListComesTo json (files.known story) before now outcome
 Comes (ListStory story (Some certificate) json) files later input aside refusals before now outcome = ListByComesTo json (files.known story) (files.known certificate) before now outcome
@@ -110,9 +110,9 @@ Comes (Check story certificate false) files later input aside refusals before no
 Comes (Check story certificate true) files later input aside refusals before now outcome = CheckEachComesTo true (Some certificate) (story ∷ []) files later before now outcome
 Comes (CheckEach stories json) files later input aside refusals before now outcome = CheckEachComesTo json None stories files later before now outcome
 Comes (Show story certificate address) files later input aside refusals before now outcome = ShowComesTo (files.known story) (files.known certificate) address before now outcome
-Comes (Play story None seed budget status save tell force) files later input aside refusals before now outcome =
+Comes (Play story None seed budget status save tell force front) files later input aside refusals before now outcome =
     PlaysBeside files later story save aside (record { budget = budget; status = status }) (given input seed (store_of save)) refusals before now outcome
-Comes (Play story (Some certificate) seed budget status save tell force) files later input aside refusals before now outcome =
+Comes (Play story (Some certificate) seed budget status save tell force front) files later input aside refusals before now outcome =
     PlayComesTo (files.known story) (files.known certificate) (record { budget = budget; status = status }) (given input seed (store_of save)) refusals before now outcome
 Comes (Info story json) files later input aside refusals before now outcome = InfoComesTo json story files.known before now outcome
 Comes (Explain code json) files later input aside refusals before now outcome = ExplainComesTo code json before now outcome
@@ -126,7 +126,7 @@ Begins request files later input aside refusals before now outcome =
 
 -- a request whose answer needs no input
 abbrev pub is_quiet : Request → Bool
-is_quiet (Play story certificate seed budget status save tell force) = false
+is_quiet (Play story certificate seed budget status save tell force front) = false
 is_quiet _ = true
 
 -- a request that goes through stories one after another, and tells of each what it comes to
@@ -139,14 +139,14 @@ is_each request = false
 
 -- the name of a file of which a failure needn't end a request, if there is one: that for saves, or a certificate beside a story
 abbrev pub spared_in : Request → Option Text
-spared_in (Play story None seed budget status save tell force) = spared_beside save story
-spared_in (Play story (Some certificate) seed budget status save tell force) = save
+spared_in (Play story None seed budget status save tell force front) = spared_beside save story
+spared_in (Play story (Some certificate) seed budget status save tell force front) = save
 spared_in (Info story json) = Some (name_of_certificate story)
 spared_in request = None
 
 -- the name of the file that saves are kept in, if a request has one
 abbrev pub save_in : Request → Option Text
-save_in (Play story certificate seed budget status save tell force) = save
+save_in (Play story certificate seed budget status save tell force front) = save
 save_in _ = None
 
 -- the name of the file that a request may write
@@ -157,12 +157,12 @@ written_by request = save_in request
 
 -- the refusals that are said of those that a request met, the newest first
 abbrev pub said_by : Request → List SaveError → List SaveError
-said_by (Play story certificate seed budget status save tell force) refusals = said_of tell save refusals
+said_by (Play story certificate seed budget status save tell force front) refusals = said_of tell save refusals
 said_by _ refusals = []
 
 -- what became of the certificate beside a story that is played with none named is told, and then each save that is refused
 abbrev pub SaysFor : Request → Aside → List SaveError → Seen → Seen → Type 0
-SaysFor (Play story None seed budget status save tell force) aside refusals old new = SaysAll story aside (said_of tell save refusals) old new
+SaysFor (Play story None seed budget status save tell force front) aside refusals old new = SaysAll story aside (said_of tell save refusals) old new
 SaysFor request aside refusals old new = SaysEach (said_by request refusals) old new
 
 -- which file a failure of files is of, by what is asked for
@@ -176,8 +176,8 @@ IsBlamed (Check story certificate false) files = IsOfEither files story certific
 IsBlamed (Check story certificate true) files = ⊥
 IsBlamed (CheckEach stories json) files = ⊥
 IsBlamed (Show story certificate address) files = IsOfEither files story certificate
-IsBlamed (Play story None seed budget status save tell force) files = files.can_fail story ≡ true
-IsBlamed (Play story (Some certificate) seed budget status save tell force) files = IsOfEither files story certificate
+IsBlamed (Play story None seed budget status save tell force front) files = files.can_fail story ≡ true
+IsBlamed (Play story (Some certificate) seed budget status save tell force front) files = IsOfEither files story certificate
 IsBlamed (Info story json) files = files.can_fail story ≡ true
 IsBlamed (Explain code json) files = ⊥
 IsBlamed (Unpack story save out force) files = IsOfThree files story save out
@@ -192,15 +192,15 @@ IsToldOf NotOne blamed = ⊥
 IsToldOf (Check story certificate json) blamed = IsUnreadOf story certificate blamed
 IsToldOf (CheckEach stories json) blamed = ⊥
 IsToldOf (Show story certificate address) blamed = IsUnreadOf story certificate blamed
-IsToldOf (Play story None seed budget status save tell force) blamed = IsUnread story blamed
-IsToldOf (Play story (Some certificate) seed budget status save tell force) blamed = IsUnreadOf story certificate blamed
+IsToldOf (Play story None seed budget status save tell force front) blamed = IsUnread story blamed
+IsToldOf (Play story (Some certificate) seed budget status save tell force front) blamed = IsUnreadOf story certificate blamed
 IsToldOf (Info story json) blamed = IsUnread story blamed
 IsToldOf (Explain code json) blamed = ⊥
 IsToldOf (Unpack story save out force) blamed = IsUnreadOfThree story save out blamed
 
 -- what is done of a request: where words are told, as on a terminal, a play tells of each save that is refused, asked for or not
 abbrev pub spoken : Speech → Request → Request
-spoken Words (Play story certificate seed budget status save tell force) = Play story certificate seed budget status save true force
+spoken Words (Play story certificate seed budget status save tell force front) = Play story certificate seed budget status save true force front
 spoken speech request = request
 
 -- A request, with the values among clap's matches: what it comes to is reported, if its file may be written over, behind what is said of a certificate that stands beside a story

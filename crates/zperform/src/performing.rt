@@ -93,6 +93,7 @@ fn spoken<'s, 'a>(command: Command<'s, 'a>, speech: Speech) -> Command<'s, 'a>
                 status,
                 save,
                 force,
+                front,
                 ..
             },
         ) => Command::Play {
@@ -104,6 +105,7 @@ fn spoken<'s, 'a>(command: Command<'s, 'a>, speech: Speech) -> Command<'s, 'a>
             save,
             tell: true,
             force,
+            front,
         },
         _ => command,
     }
@@ -260,6 +262,7 @@ fn fulfil<F: Files, R: Source, W: Sink, E: Sink>(
             status,
             save,
             tell,
+            // Open: text isn't wrapped at the front's width, and no lines are kept or replayed.
             ..
         } => {
             let options = Options { budget, status };
