@@ -29,7 +29,7 @@ in neither .z3 nor .Z3, that is the certificate's. With --json a command answers
 
 Exit status:
   0  done
-  1  refused: a story, a certificate, or a file that would be written over; or no certificate is found
+  1  refused: a story, a certificate, a save, or a file that would be written over; or no certificate is found
   2  the words are wrong, or -o names one certificate for several stories
   3  the story met a fault
   4  a file or device failed, or memory was refused

@@ -7,7 +7,7 @@ use Rattle.zunpack.specs.Causes.{IsCause, IsLowest}
 use Rattle.zunpack.specs.PackedSave.{PackedAs}
 use Rattle.zunpack.specs.declared.error.UnpackError.TheVariants.{OutOfMemory as NoMemoryToUnpack}
 use Rattle.zperform.specs.Blaming.{IsOf}
-use Rattle.zperform.specs.Contents.{SparesOthers}
+use Rattle.zperform.specs.Contents.{HasBytes, SparesOthers}
 use Rattle.zperform.specs.Devices.{Held}
 use Rattle.zperform.specs.Accepting.{HoldsSuch, IsWhyNone}
 use Rattle.zperform.specs.Finding.{HasAlone}
@@ -31,11 +31,12 @@ IsUnpacked story packed plain = (s : Saved) × PackedAs story packed s × (plain
 abbrev pub IsUnpackedOf : Option (List ℕ) → Option (List ℕ) → List ℕ → Type 0
 IsUnpackedOf story_known save_known plain = HoldsSuch story_known (λ story. ReadsSave save_known (λ packed. IsUnpacked story packed plain))
 
--- why a file's bytes aren't unpacked for a story: for their cause with the lowest number, or since they can't be read, or for want of memory
+-- why a file's bytes aren't unpacked for a story: for their cause with the lowest number, or since they can't be read, or for want of memory, of a file
+-- that has a byte
 abbrev pub IsPacked : Option (List ℕ) → LoadedStory → Problem → Type 0
 IsPacked known story (Packed error) = ReadsSave known (λ packed. IsLowest (IsCause story packed) error) × (error ≢ NoMemoryToUnpack)
 IsPacked known story (Failed File) = ⊤
-IsPacked known story (Failed Memory) = ⊤
+IsPacked known story (Failed Memory) = HasBytes known
 IsPacked known story problem = ⊥
 
 -- the story's file is looked at first

@@ -28,7 +28,7 @@ pub enum UnpackError {
     TooLong,
     /// C9: the frames are none that a story can have (Q 4, own).
     Frames,
-    /// C10: memory was refused. It says nothing of the file but that no cause before C9 holds.
+    /// Memory was refused. It says nothing of the file but that no cause before C9 holds.
     OutOfMemory,
 }
 
