@@ -6,13 +6,14 @@ come to what is worked out here (Q 3).
 import os
 import random
 import shutil
-import struct
 import subprocess
 import tempfile
 
 import peers
 import stories
 from program import side_by_side
+from saves import chunks_of
+from unpacking import plain_of
 
 WALKTHROUGH = stories.ASKING[stories.BELL][2][0]
 
@@ -72,14 +73,14 @@ def from_peer(program, peer, room, parting, wanted):
     with open(path, "rb") as file:
         kept = file.read()
     goes_on = lambda: told(wanted, gone_on(program, room, name, parting))
-    if b"CMem" not in dict(chunks(kept)):
+    if b"CMem" not in dict(chunks_of(kept) or ()):
         yield peer.name, f"saves: its own, {parting.number}", goes_on()
         return
     answer = gone_on(program, room, name, parting)
     yield peer.name, f"saves: its own, refused, {parting.number}", None if answer.errors.startswith(b"save refused: Q5\n") else repr(answer)
     rewritten = program.run_in(room, ["unpack", "story", name, name])
     with open(path, "rb") as file:
-        same = file.read() == unpacked(kept, parting.story)
+        same = file.read() == plain_of(kept, parting.story)
     yield peer.name, f"saves: its own, rewritten, {parting.number}", None if same and rewritten.status == 0 else repr(rewritten)
     yield peer.name, f"saves: its own, unpacked, {parting.number}", goes_on()
 
@@ -87,28 +88,3 @@ def from_peer(program, peer, room, parting, wanted):
 def told(wanted, answer):
     """How an answer differs from the one that is wanted, if it does."""
     return None if answer == wanted else peers.difference(wanted.output, answer.output) or repr(answer)
-
-
-def chunks(form):
-    """The chunks of a form, by their names and data (Q 8)."""
-    at = 12
-    while at + 8 <= len(form):
-        size = struct.unpack(">I", form[at + 4 : at + 8])[0]
-        yield form[at : at + 4], form[at + 8 : at + 8 + size]
-        at += 8 + size + size % 2
-
-
-def unpacked(form, story):
-    """The same save with memory as it is, in the order in which zpc writes it: a zero and a count stand for zeros, and what is left is what differs
-    from the story (Q 3)."""
-    def memory(packed):
-        dynamic, at, differs = struct.unpack(">H", story[14:16])[0], 0, bytearray()
-        while at < len(packed):
-            differs += bytes(packed[at + 1] + 1) if packed[at] == 0 else packed[at : at + 1]
-            at += 2 if packed[at] == 0 else 1
-        return bytes(a ^ b for a, b in zip(story[:dynamic], differs.ljust(dynamic, b"\0")))
-
-    data = dict(chunks(form))
-    made = [(b"IFhd", data[b"IFhd"]), (b"UMem", memory(data[b"CMem"])), (b"Stks", data[b"Stks"])]
-    inside = b"".join(name + struct.pack(">I", len(data)) + data + b"\0" * (len(data) % 2) for name, data in made)
-    return b"FORM" + struct.pack(">I", len(inside) + 4) + b"IFZS" + inside

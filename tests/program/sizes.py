@@ -20,7 +20,7 @@ from marks import ANY
 from plays import PRINT_TOP, PUSH, ended, placed
 from program import Answer, Count, Program
 from samples import CODE, DICTIONARY, NEW_LINE, NOP, QUIT, STATIC, certificate, changed, interval, letter, printed, story, text, word
-from saves import FIRST_FRAME, RESTORE, SAVE, chunk
+from saves import FIRST_FRAME, RESTORE, SAVE, saved
 from stated import stated
 from unpacking import ways
 
@@ -411,10 +411,8 @@ def packed_saves(program, count):
     made = story(RESTORE + SAVE + QUIT, room=64700)
     dynamic = STATIC + 64700
     frames = FIRST_FRAME + MOST * (b"\0\3\x2e\x0f\0\0" + word(100) + bytes(230))
-    head = made[2:4] + made[18:24] + made[28:30] + b"\0\3\x25"
     for what, memory in (("all bytes changed", bytes(it ^ 255 for it in made[:dynamic])), ("no byte changed", made[:dynamic])):
-        inside = b"IFZS" + chunk(b"IFhd", head) + chunk(b"UMem", memory) + chunk(b"Stks", frames)
-        save = b"FORM" + struct.pack(">I", len(inside)) + inside
+        save = saved(made, CODE, memory=memory, frames=frames)
         for how, packed in ways(save, made):
             with tempfile.TemporaryDirectory(prefix="sizes-") as room:
                 for name, contents in (("story", made), ("his", packed)):

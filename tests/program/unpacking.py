@@ -6,7 +6,7 @@ import tempfile
 
 from altered import changes
 from program import Answer, side_by_side
-from samples import RELEASE, SERIAL, STATIC, changed, word
+from samples import STATIC, changed
 from saves import DEEP_SAVE, FIRST_FRAME, INSIDE, INSIDE_FRAME, ITS_SAVE, QUITS, QUITS_SAVE, RESTORES, are_frames, chunk, chunks_of, saved
 
 MOST_OF_A_RUN = 256
@@ -83,7 +83,8 @@ def unpacked(data, story):
             return 7
         difference += bytes(data[at + 1] + 1) if data[at] == 0 else data[at : at + 1]
         at += 2 if data[at] == 0 else 1
-    return bytes(a ^ b for a, b in zip(story[:STATIC], difference.ljust(STATIC, b"\0"))) if len(difference) <= STATIC else 8
+    dynamic = int.from_bytes(story[14:16], "big")
+    return bytes(a ^ b for a, b in zip(story[:dynamic], difference.ljust(dynamic, b"\0"))) if len(difference) <= dynamic else 8
 
 
 def plain_of(file, story):
@@ -102,7 +103,7 @@ def plain_of(file, story):
     data = dict(chunks)
     if b"UMem" in data:
         return 5
-    if data[b"IFhd"][:10] != word(RELEASE) + SERIAL + story[0x1C:0x1E]:
+    if data[b"IFhd"][:10] != story[2:4] + story[18:24] + story[28:30]:
         return 6
     memory = unpacked(data[b"CMem"], story)
     # that it is cut off is told before that it is too long
