@@ -76,10 +76,12 @@ def public_functions(crate, sources):
 
 
 def wrong_crates():
-    """docs/ARCHITECTURE.md has a row for each crate, and for nothing else."""
+    """docs/ARCHITECTURE.md has a row for each crate, and for nothing else, and says how many there are."""
     rows = re.findall(r"(?m)^\| (z\w+) \|", text_of("docs/ARCHITECTURE.md"))
     for crate in sorted(set(rows) ^ set(crates())):
         yield f"ARCHITECTURE: {crate} {'has a row and is no crate' if crate in rows else 'is a crate and has no row'}"
+    if f"zpc is {len(crates())} crates" not in text_of("docs/ARCHITECTURE.md"):
+        yield f"ARCHITECTURE doesn't say that there are {len(crates())} crates"
 
 
 def wrong_names():
