@@ -12,3 +12,4 @@ mod Walking
 mod Backs
 mod Restoring
 mod Worked
+pub mod Stood

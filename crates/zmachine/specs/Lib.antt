@@ -4,3 +4,4 @@ pub mod Rows
 pub mod Machine
 pub mod Resuming
 pub mod Parts
+pub mod Standing

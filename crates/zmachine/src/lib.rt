@@ -5,13 +5,16 @@ mod advancing;
 mod guard;
 mod machine;
 mod parts;
+mod placing;
 mod resuming;
 mod returns;
 mod room;
 mod rows;
 mod running;
+mod standing;
 mod stepping;
 mod stuck;
+mod taking;
 
 pub use guard::{Guard, Tested, Untested};
 pub use machine::Machine;

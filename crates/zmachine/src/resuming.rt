@@ -92,7 +92,12 @@ fn back_of<R: Rows>(
 }
 
 /// Finds the rows to which the frames of a save return, above the oldest, and the one at which play goes on.
-fn find_rows<R: Rows>(rows: &mut R, story: &Story, save: &SaveView<'_>, backs: &mut Returns) -> u32
+pub(crate) fn find_rows<R: Rows>(
+    rows: &mut R,
+    story: &Story,
+    save: &SaveView<'_>,
+    backs: &mut Returns,
+) -> u32
     requires own { story.now ≡ (R.game rows.old).setting.story }
     requires few { length save.now.frames ≤ (R.game rows.old).setting.limit + 1 }
     ensures setting { (R.game rows.new).setting ≡ (R.game rows.old).setting }

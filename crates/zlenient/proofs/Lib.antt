@@ -1,0 +1,10 @@
+mod Staying
+mod Answering
+mod Noting
+mod Settled
+mod Short
+mod Worked
+mod Acted
+mod Excused
+mod Keeping
+mod Over
