@@ -119,7 +119,7 @@ module _ (m : Setting) (t : State) (need : Need) where
   split true is = absurd cc
   split false is = (refl, is)
 
-  awaits_step : awaited m t ≡ Some need → step m t ≡ Err (halts.Need need)
+  pub awaits_step : awaited m t ≡ Some need → step m t ≡ Err (halts.Need need)
   awaits_step is = needed (step m t) (split (is_some t.waiting) is).1
 
   awaits_none : awaited m t ≡ Some need → is_some t.waiting ≡ false
@@ -128,10 +128,10 @@ module _ (m : Setting) (t : State) (need : Need) where
 -- ---- stages one after another
 
 module _ (m : Setting) (Takes : State → Type 0) where
-  walks_none : (a : Stage) → Walks m a a []
+  pub walks_none : (a : Stage) → Walks m a a []
   walks_none a = record { steps = 0; all = omega arith; goes = (refl, refl); same_world = refl }
 
-  walks_join : (a b c : Stage) (xs ys : List Item) → Walks m a b xs → Walks m b c ys → Walks m a c (xs ++ ys)
+  pub walks_join : (a b c : Stage) (xs ys : List Item) → Walks m a b xs → Walks m b c ys → Walks m a c (xs ++ ys)
   walks_join a b c xs ys first second = record {
     steps = second.steps + first.steps;
     all = omega (arith, first.all, second.all);
@@ -139,7 +139,7 @@ module _ (m : Setting) (Takes : State → Type 0) where
     same_world = second.same_world ∙ first.same_world;
   }
 
-  meets_join : (input : Input) (a b c : Stage) (xs ys : List Item) → Walks m a b xs → Meets m Takes input b c ys → Meets m Takes input a c (xs ++ ys)
+  pub meets_join : (input : Input) (a b c : Stage) (xs ys : List Item) → Walks m a b xs → Meets m Takes input b c ys → Meets m Takes input a c (xs ++ ys)
   meets_join input a b c xs ys first second = record {
     steps = second.steps + first.steps;
     all = omega (arith, first.all, second.all);
@@ -388,8 +388,8 @@ handed_waits m needs.Random (Restored bytes) s u is = absurd cc
 handed_waits m needs.Saved (Restored bytes) s u is = absurd cc
 
 -- and where no step led to its need none did before
-pub given_to_come : (m n : Setting) (Taken : State → Type 0) (asked : Bool) (left k : ℕ) (s t u : State) (w v : World) (y z : Option (List ℕ)) → Writes m asked left k s t y z → Supplies n Taken t w true u v → to_come k u < to_come left s
-given_to_come m n Taken asked left k s t u w v y z turn (input, need, awaits, answer, is) = go turn.steps turn.all turn.goes
+pub steps_to_come : (m n : Setting) (Taken : State → Type 0) (left k : ℕ) (s t u : State) (w v : World) (steps : ℕ) (given : List Item) → steps + k ≡ left → Goes m steps s t given → Supplies n Taken t w true u v → to_come k u < to_come left s
+steps_to_come m n Taken left k s t u w v steps given all goes (input, need, awaits, answer, is) = go steps all goes
   where
     waits : one_unless (is_some u.waiting) ≡ 0
     waits = ap one_unless (handed_waits n need input t u is)
@@ -397,8 +397,11 @@ given_to_come m n Taken asked left k s t u w v y z turn (input, need, awaits, an
     none : one_unless (is_some t.waiting) ≡ 1
     none = ap (λ (b : Bool). one_unless b) (awaits_none n t need awaits)
 
-    go : (steps : ℕ) → steps + k ≡ left → Goes m steps s t turn.given → to_come k u < to_come left s
+    go : (steps : ℕ) → steps + k ≡ left → Goes m steps s t given → to_come k u < to_come left s
     go zero all (still, nothing) =
         let before : one_unless (is_some s.waiting) ≡ 1 = ap (λ (i : State). one_unless (is_some i.waiting)) (sym still) ∙ none in
         rw (waits, before) (omega (arith, all))
     go (suc steps) all goes = rw waits (omega (arith, all))
+
+pub given_to_come : (m n : Setting) (Taken : State → Type 0) (asked : Bool) (left k : ℕ) (s t u : State) (w v : World) (y z : Option (List ℕ)) → Writes m asked left k s t y z → Supplies n Taken t w true u v → to_come k u < to_come left s
+given_to_come m n Taken asked left k s t u w v y z turn supplied = steps_to_come m n Taken left k s t u w v turn.steps turn.given turn.all turn.goes supplied

@@ -4,3 +4,5 @@ pub mod Outside
 pub mod Playing
 pub mod Stories
 pub mod World
+pub mod Leniently
+pub mod LenientCalls

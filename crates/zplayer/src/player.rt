@@ -126,7 +126,7 @@ fn play_turns<M: Machine, R: Source, W: Sink, S: SaveStore, G: Words>(
 }
 
 /// Hands in what the machine awaits, which stands still so. Answers whether the world had it.
-fn supply<M: Machine, R: Source, W: Sink, S: SaveStore, G: Words>(
+pub(crate) fn supply<M: Machine, R: Source, W: Sink, S: SaveStore, G: Words>(
     alloc: Global,
     stop: Stop,
     machine: &mut M,

@@ -15,7 +15,7 @@ use zscreen::write_items;
 use zstate::Stop;
 
 /// The most steps that are made before what they gave out is written.
-const TURN: u32 = 1024;
+pub(crate) const TURN: u32 = 1024;
 
 /// How much is held until it is written, but for what one step gives out: 64 KiB.
 pub(crate) const HELD: usize = 65_536;
@@ -57,7 +57,7 @@ pub(crate) fn turn<M: Machine, W: Sink>(
 }
 
 /// Where playing stands still: not where a turn's steps were made and more are left.
-fn standstill(stop: Stop, left: u32) -> Option<Stop>
+pub(crate) fn standstill(stop: Stop, left: u32) -> Option<Stop>
     ensures none { IfNone result ((stop ≡ Stop.Paused Pause.Budget) × (0 < left)) }
     ensures some { IfSome result (λ s. (s ≡ stop) × (stop ≡ Stop.Paused Pause.Budget → left ≡ 0)) }
 {
