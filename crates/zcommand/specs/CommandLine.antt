@@ -59,6 +59,10 @@ status_rule = record (new_rule (codes "status")) { long = Some (codes "status");
 abbrev pub tell_rule : Rule
 tell_rule = record (new_rule (codes "tell")) { long = Some (codes "tell"); action = Some SetTrue }
 
+-- `--lenient`, a flag
+abbrev pub lenient_rule : Rule
+lenient_rule = record (new_rule (codes "lenient")) { long = Some (codes "lenient"); action = Some SetTrue }
+
 -- `--force`, a flag
 abbrev pub force_rule : Rule
 force_rule = record (new_rule (codes "force")) { long = Some (codes "force"); action = Some SetTrue }
@@ -136,8 +140,12 @@ abbrev pub saveless_app : App
 saveless_app = with_rule (with_rule (with_rule (files_app (codes "play") false) seed_rule) budget_rule) status_rule
 
 -- the same with `--save FILE --tell --force`
+abbrev pub strict_app : App
+strict_app = with_rule (with_rule (with_rule saveless_app save_rule) tell_rule) force_rule
+
+-- the same with `--lenient`
 abbrev pub play_app : App
-play_app = with_rule (with_rule (with_rule saveless_app save_rule) tell_rule) force_rule
+play_app = with_rule strict_app lenient_rule
 
 -- `info STORY --json`
 abbrev pub info_app : App
@@ -237,6 +245,10 @@ is_places_asked rows = is_asked (codes "places") rows
 abbrev pub is_force_asked : List Row → Bool
 is_force_asked rows = is_asked (codes "force") rows
 
+-- and whether play is to go on after faults as interpreters do
+abbrev pub is_lenient_asked : List Row → Bool
+is_lenient_asked rows = is_asked (codes "lenient") rows
+
 -- and whether an object of JSON is to be answered
 abbrev pub is_json_asked : List Row → Bool
 is_json_asked rows = is_asked (codes "json") rows
@@ -293,7 +305,7 @@ pub data Request : Type 0 where
   Check : (story certificate : Text) (json : Bool) → Request
   CheckEach : (stories : List Text) (json : Bool) → Request
   Show : (story certificate : Text) (address : Option Text) → Request
-  Play : (story : Text) (certificate : Option Text) (seed budget : ℕ) (status : Bool) (save : Option Text) (tell force : Bool) → Request
+  Play : (story : Text) (certificate : Option Text) (seed budget : ℕ) (status : Bool) (save : Option Text) (tell force lenient : Bool) → Request
   Info : (story : Text) (json : Bool) → Request
   Explain : (code : Option Text) (json : Bool) → Request
   Unpack : (story save out : Text) (force : Bool) → Request
@@ -318,9 +330,10 @@ Asks matches (CheckEach stories json) =
     (matches.0 ≡ codes "check") × (pair_of (files_of matches.1) ≡ None) × (stories ≡ files_of matches.1) × (json ≡ is_json_asked matches.1)
 Asks matches (Show story certificate address) =
     (matches.0 ≡ codes "show") × (story ≡ story_of matches.1) × (certificate ≡ unwrap_or (certificate_of matches.1) []) × (address ≡ address_of matches.1)
-Asks matches (Play story certificate seed budget status save tell force) =
+Asks matches (Play story certificate seed budget status save tell force lenient) =
     (matches.0 ≡ codes "play") × (story ≡ story_of matches.1) × (certificate ≡ certificate_of matches.1) × (seed ≡ seed_of matches.1) × (budget ≡ budget_of matches.1)
     × (status ≡ is_status_asked matches.1) × (save ≡ save_of matches.1) × (tell ≡ is_tell_asked matches.1) × (force ≡ is_force_asked matches.1)
+    × (lenient ≡ is_lenient_asked matches.1)
 Asks matches (Info story json) = (matches.0 ≡ codes "info") × (story ≡ story_of matches.1) × (json ≡ is_json_asked matches.1)
 Asks matches (Explain code json) = (matches.0 ≡ codes "explain") × (code ≡ code_of matches.1) × (json ≡ is_json_asked matches.1)
 Asks matches (Unpack story save out force) =
@@ -335,7 +348,8 @@ request_of commands.OneForMany = OneForMany
 request_of (commands.Check story certificate json) = Check story.now certificate.now json
 request_of (commands.CheckEach stories json) = CheckEach (map (λ s. s.now) stories.now) json
 request_of (commands.Show story certificate address) = Show story.now certificate.now (option_map (λ a. a.now) address)
-request_of (commands.Play story certificate seed budget status save tell force) = Play story.now (option_map (λ c. c.now) certificate) seed budget status (option_map (λ f. f.now) save) tell force
+request_of (commands.Play story certificate seed budget status save tell force lenient) =
+    Play story.now (option_map (λ c. c.now) certificate) seed budget status (option_map (λ f. f.now) save) tell force lenient
 request_of (commands.Info story json) = Info story.now json
 request_of (commands.Explain code json) = Explain (option_map (λ c. c.now) code) json
 request_of (commands.Unpack story save out force) = Unpack story.now save.now out.now force

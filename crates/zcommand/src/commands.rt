@@ -3,7 +3,7 @@
 ghost use Rattle.std.specs.Prelude.{◌≡◌, IfOk, false};
 ghost use Rattle.clap.specs.Words.{app_of, rule_of};
 ghost use Rattle.clap.specs.declared.builder.command.Command.TheViews.{out-Command as fields_of};
-ghost use Rattle.zcommand.specs.CommandLine.{frames_rule, framing_app, bare_app, budget_rule, certificate_rule, address_rule, certifying_app, check_app, code_rule, explain_app, file_rule, files_app, files_rule, find_app, force_rule, info_app, json_rule, list_app, many_app, naming_app, out_rule, output_rule, packed_rule, places_rule, play_app, playing_app, save_rule, saveless_app, seed_rule, show_app, status_rule, story_rule, strict_rule, tell_rule, unpack_app, word_rule, zpc_app};
+ghost use Rattle.zcommand.specs.CommandLine.{frames_rule, framing_app, bare_app, budget_rule, certificate_rule, address_rule, certifying_app, check_app, code_rule, explain_app, file_rule, files_app, files_rule, find_app, force_rule, info_app, json_rule, lenient_rule, list_app, many_app, naming_app, out_rule, output_rule, packed_rule, places_rule, play_app, playing_app, save_rule, saveless_app, seed_rule, show_app, status_rule, story_rule, strict_app, strict_rule, tell_rule, unpack_app, word_rule, zpc_app};
 
 use crate::words::MOST_FRAMES;
 use clap::builder::ValueParser;
@@ -63,8 +63,12 @@ const PLAY_ENDING: &str =
     "Where no CERT is named, the story is played by the certificate beside it, whose name is the story's with .cert for .z3, if the story
 is accepted with that. One that isn't used is told of first.
 
+With --lenient everything is tested, and no certificate beside the story is looked for; with a CERT the story has to be accepted all
+the same. What is done in the place of each fault is in docs/MACHINE.md.
+
 Examples:
   zpc play story.z3
+  zpc play --lenient story.z3
   zpc play --save my.qzl story.z3 story.cert";
 
 /// What is behind the help of `unpack`.
@@ -178,6 +182,14 @@ fn show<'a>(alloc: Global) -> Result<clap::Command<'a>, AllocError>
 
 fn play<'a>(alloc: Global) -> Result<clap::Command<'a>, AllocError>
     ensures app { IfOk result (λ play. app_of play ≡ play_app) }
+    ensures local { IfOk result (λ play. (fields_of play).has_globals ≡ false) }
+{
+    strict_play(alloc)?.arg(lenient(alloc))
+}
+
+/// `play` without what is said of faults.
+fn strict_play<'a>(alloc: Global) -> Result<clap::Command<'a>, AllocError>
+    ensures app { IfOk result (λ play. app_of play ≡ strict_app) }
     ensures local { IfOk result (λ play. (fields_of play).has_globals ≡ false) }
 {
     let play = saveless(alloc)?.arg(save(alloc))?;
@@ -461,6 +473,16 @@ fn tell<'a>(alloc: Global) -> Arg<'a>
     Arg::new(alloc, "tell")
         .long("tell")
         .help("Tells of each save that is refused why it is")
+        .action(ArgAction::SetTrue)
+}
+
+fn lenient<'a>(alloc: Global) -> Arg<'a>
+    ensures rule { rule_of result ≡ lenient_rule }
+    ensures local { result.global ≡ false }
+{
+    Arg::new(alloc, "lenient")
+        .long("lenient")
+        .help("Goes on after faults as interpreters do, and tells of them")
         .action(ArgAction::SetTrue)
 }
 

@@ -102,6 +102,8 @@ pub enum Command<'s, 'a> {
         tell: bool,
         /// Whether the file for saves may hold something else now.
         force: bool,
+        /// Whether play goes on after a fault as interpreters do, where something is customary.
+        lenient: bool,
     },
     /// Tells what a story says of itself, and what it has.
     Info {
@@ -331,6 +333,7 @@ fn play_of<'s, 'a>(matches: &'s ArgMatches<'a>) -> Command<'s, 'a>
     let save = matches.get_str("save");
     let tell = matches.get_one("tell").unwrap_or(false);
     let force = matches.get_one("force").unwrap_or(false);
+    let lenient = matches.get_one("lenient").unwrap_or(false);
     Command::Play {
         story,
         certificate,
@@ -340,6 +343,7 @@ fn play_of<'s, 'a>(matches: &'s ArgMatches<'a>) -> Command<'s, 'a>
         save,
         tell,
         force,
+        lenient,
     }
 }
 

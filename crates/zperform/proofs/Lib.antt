@@ -15,10 +15,12 @@ mod VerdictLemmas
 mod SeekLemmas
 mod BesideLemmas
 mod UnpackLemmas
+mod ExcusingLemmas
 mod Joined
 mod LineLemmas
 mod Worked
 mod WorkedClaims
+mod WorkedExcusing
 mod WorkedMarks
 mod WorkedPlays
 mod WorkedShowing

@@ -17,6 +17,7 @@ use Rattle.zplayer.specs.declared.end.End.{End}
 use Rattle.zplayer.specs.declared.end.Options.{Options}
 use Rattle.zplayer.specs.declared.end.PlayError.{PlayError}
 use Rattle.zplayer.specs.declared.end.PlayError.TheVariants as errors
+use Rattle.zplayer.specs.Leniently.{Noted}
 use Rattle.zplayer.specs.Outside.{Coming}
 use Rattle.zplayer.specs.Playing.{WantsOrSaves, ComesTo as PlayComes}
 use Rattle.zplayer.specs.World.{Store, World}
@@ -44,12 +45,12 @@ module _ {V : Type 0} (o : SetOperations V) (format : Format V) (story certifica
   unopened m marked = story_bytes story m.story marked.story
 
   -- what is said of a play of what is accepted is said of both files
-  pub ends_of : (options : Options) (given : World) (refusals : List SaveError) (before now : Option (List ℕ)) (outcome : Outcome) (j : JudgedOver V) → IsJudgedOf o format story certificate j
-      → ComesOfEither (λ (a : AcceptanceOver V) (options : Options) given refusals before now outcome. (story certificate : Option (List ℕ)) → IsAccepted o format story certificate a → PlayEnds o format story certificate options given refusals before now outcome)
-      (λ (m : MarkedOver V) (options : Options) given refusals before now outcome. (story certificate : Option (List ℕ)) → IsMarkedOf o format story certificate m → PlayEnds o format story certificate options given refusals before now outcome) j options given refusals before now outcome
+  pub ends_of : (options : Options) (noted : Noted) (given : World) (refusals : List SaveError) (before now : Option (List ℕ)) (outcome : Outcome) (j : JudgedOver V) → IsJudgedOf o format story certificate j
+      → ComesOfEither (λ (a : AcceptanceOver V) (options : Options) (noted : Noted) given refusals before now outcome. (story certificate : Option (List ℕ)) → IsAccepted o format story certificate a → PlayEnds o format story certificate options given refusals before now outcome)
+      (λ (m : MarkedOver V) (options : Options) (noted : Noted) given refusals before now outcome. (story certificate : Option (List ℕ)) → IsMarkedOf o format story certificate m → PlayEnds o format story certificate options given refusals before now outcome) j options noted given refusals before now outcome
       → PlayEnds o format story certificate options given refusals before now outcome
-  ends_of options given refusals before now outcome (Whole a) accepted comes = comes story certificate accepted
-  ends_of options given refusals before now outcome (Marked m) marked comes = comes story certificate marked
+  ends_of options noted given refusals before now outcome (Whole a) accepted comes = comes story certificate accepted
+  ends_of options noted given refusals before now outcome (Marked m) marked comes = comes story certificate marked
 
   -- a machine that was made
   module _ (options : Options) (given : World) (refusals : List SaveError) (before : Option (List ℕ)) (m : MarkedOver V) (marked : IsMarkedOf o format story certificate m) (machine : Machine) (opened : machine ≡ record { story = m.story; scope = Within (frame_limit m.certificate); state = opening m.story }) (now : Option (List ℕ)) (state : State) (words : Option Coming) (store : Store) (unsaved : StaysEmpty given.store store) (refused : store.refusals ≡ refusals) where

@@ -6,6 +6,7 @@ use Rattle.zplayer.specs.declared.end.End.{End}
 use Rattle.zplayer.specs.Outside.{Blames}
 use Rattle.zquetzal.specs.declared.error.SaveError.{SaveError}
 use Rattle.zcommand.specs.CommandLine.{Asks, Check, CheckEach, Explain, Find, FindEach, Info, ListStory, OneForMany, Play, Request, Show, zpc_app, Unpack}
+use Rattle.zperform.proofs.ExcusingLemmas.{says_nothing}
 use Rattle.zperform.specs.Devices.{Devices, FlushesUnless, Held, Seen, UsesUnless, seen, told}
 use Rattle.zperform.specs.Performing.{Begins, Explains, IsBlamed, IsToldOf, Performs, Reports, SaysFor, is_each, is_quiet, spared_in, spoken, written_by}
 use Rattle.zperform.specs.declared.wording.Speech.{Speech}
@@ -72,8 +73,9 @@ module _ (words : List Text) (speech : Speech) (status : ℕ) (old new : Devices
 
 -- where no certificate was looked for and no save was refused, nothing is said
 pub says_none : (request : Request) (errors : Seen) → SaysFor request Unsought [] errors errors
-says_none (Play story None seed budget status save tell force) errors = (errors, refl, refl)
-says_none (Play story (Some certificate) seed budget status save tell force) errors = refl
+says_none (Play story certificate seed budget status save tell force true) errors = says_nothing tell save errors
+says_none (Play story None seed budget status save tell force false) errors = (errors, refl, refl)
+says_none (Play story (Some certificate) seed budget status save tell force false) errors = refl
 says_none (ListStory story certificate json) errors = refl
 says_none (Find story certificate frames strict places force json) errors = refl
 says_none (FindEach stories frames strict places force json) errors = refl

@@ -189,7 +189,7 @@ each_told = (
 -- they are told where that is asked for and saves are in a file, and by plays alone
 told_where :
     (said_of true (Some (7 ∷ [])) (Length ∷ NotForm ∷ []) ≡ Length ∷ NotForm ∷ []) × (said_of false (Some (7 ∷ [])) (Length ∷ []) ≡ []) × (said_of true None (Length ∷ []) ≡ [])
-    × (said_by (Play (1 ∷ []) None 1 2 false (Some (7 ∷ [])) true false) (Length ∷ []) ≡ Length ∷ []) × (said_by (Play (1 ∷ []) None 1 2 true (Some (7 ∷ [])) false false) (Length ∷ []) ≡ []) × (said_by (Find (1 ∷ []) (2 ∷ []) None false false false false) (Length ∷ []) ≡ [])
+    × (said_by (Play (1 ∷ []) None 1 2 false (Some (7 ∷ [])) true false false) (Length ∷ []) ≡ Length ∷ []) × (said_by (Play (1 ∷ []) None 1 2 true (Some (7 ∷ [])) false false false) (Length ∷ []) ≡ []) × (said_by (Find (1 ∷ []) (2 ∷ []) None false false false false) (Length ∷ []) ≡ [])
 told_where = (refl, refl, refl, refl, refl, refl)
 
 -- want of memory is told, and nothing else is done
@@ -225,8 +225,8 @@ module _ (search : Search) (story certificate : List ℕ) (held later : Held) (i
 
   comes_of_plays :
       (seed budget : ℕ) (status : Bool) (save : Option (List ℕ)) (tell force : Bool)
-      → (Comes (Play story None seed budget status save tell force) held later input aside [] before now outcome → PlaysBeside held later story save aside (record { budget = budget; status = status }) (given input seed (store_of save)) [] before now outcome)
-      × (Comes (Play story (Some certificate) seed budget status save tell force) held later input aside [] before now outcome → PlayComesTo (held.known story) (held.known certificate) (record { budget = budget; status = status }) (given input seed (store_of save)) [] before now outcome)
+      → (Comes (Play story None seed budget status save tell force false) held later input aside [] before now outcome → PlaysBeside held later story save aside (record { budget = budget; status = status }) (given input seed (store_of save)) [] before now outcome)
+      × (Comes (Play story (Some certificate) seed budget status save tell force false) held later input aside [] before now outcome → PlayComesTo (held.known story) (held.known certificate) (record { budget = budget; status = status }) (given input seed (store_of save)) [] before now outcome)
   comes_of_plays seed budget status save tell force = (λ comes. comes, λ comes. comes)
 
   -- with no certificate named a story is played by the one beside it only where it is accepted with that, and else with everything tested

@@ -219,6 +219,15 @@ abbrev pub IsAcceptedStory : Option (List ℕ) → Option (List ℕ) → Accepte
 IsAcceptedStory story_known certificate_known (Intervals j) = IsJudgedOf interval_operations interval_format story_known certificate_known j
 IsAcceptedStory story_known certificate_known (Lists j) = IsJudgedOf values_operations values_format story_known certificate_known j
 
+-- the story of it
+abbrev pub story_in : {V : Type 0} → JudgedOver V → LoadedStory
+story_in (Whole a) = a.story
+story_in (Marked m) = m.story
+
+abbrev pub story_of : AcceptedStory → LoadedStory
+story_of (Intervals j) = story_in j
+story_of (Lists j) = story_in j
+
 -- how many marks it has
 abbrev pub marks_of : AcceptedStory → ℕ
 marks_of (Intervals j) = marks_in (certificate_of j)

@@ -2,6 +2,7 @@
 use Rattle.std.specs.Prelude.{◌≡◌, ◌≢◌, ◌⊎◌, ℕ, Bool, true, false, List, [], ◌∷◌, ◌++◌, Option, None, Some, string_bytes}
 use Rattle.zquetzal.specs.declared.error.SaveError.{SaveError}
 use Rattle.zfault.specs.Devices.{RisesByOne}
+use Rattle.zplayer.specs.Leniently.{Noted}
 use Rattle.zplayer.specs.World.{World}
 use Rattle.zplayer.specs.declared.end.Options.{Options}
 use Rattle.zperform.specs.Accepting.{IsAcceptedStory, IsNoStory, IsUnacceptedStory, PlayComesTo}
@@ -24,12 +25,13 @@ use Rattle.zperform.specs.declared.outcome.Outcome.{Outcome}
 use Rattle.zperform.specs.declared.outcome.Outcome.TheVariants.{Stopped}
 
 -- What became of the certificate beside a story: it wasn't looked for, or there is none, or the story is played by it, or it isn't, since it
--- isn't accepted with it, with the file that failed last.
+-- isn't accepted with it, with the file that failed last; or it wasn't looked for, since play was lenient, with the faults that were answered.
 pub data Aside : Type 0 where
   Unsought : Aside
   Absent : Aside
   Used : Aside
   Unused : (blame : Option Blame) (problem : Problem) → Aside
+  Excused : (noted : Noted) → Aside
 
 -- memory is wanting
 abbrev pub wants_memory : Problem → Bool
@@ -58,6 +60,7 @@ abbrev pub SaysAside : List ℕ → Aside → Seen → Seen → Type 0
 SaysAside story Unsought old new = new ≡ old
 SaysAside story Absent old new = new ≡ old
 SaysAside story Used old new = new ≡ old
+SaysAside story (Excused noted) old new = new ≡ old
 SaysAside story (Unused blame problem) old new = SaysUnused (name_of_certificate story) blame problem old new
 
 -- its file failed
@@ -93,6 +96,7 @@ ComesAside files story Used options given refusals before now outcome =
     × PlayComesTo (files.known story) (files.known (name_of_certificate story)) options given refusals before now outcome
 ComesAside files story (Unused blame problem) options given refusals before now outcome =
     IsUnused files story blame problem × ComesTo (files.known story) options given refusals before now outcome
+ComesAside files story (Excused noted) options given refusals before now outcome = ⊥
 
 -- so it comes out; with no file for saves, files fail in no other way than is told
 pub record PlaysBeside (files later : Held) (story : List ℕ) (save : Option (List ℕ)) (aside : Aside) (options : Options) (given : World) (refusals : List SaveError) (before now : Option (List ℕ)) (outcome : Outcome) : Type 0 where

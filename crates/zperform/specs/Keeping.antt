@@ -24,7 +24,7 @@ BeginsSo magic bytes = take 4 bytes ≡ take (length bytes) magic
 -- the file that a request may write and what it is for, unless it may be written over whatever it holds, or that is told of each story
 abbrev pub kept_in : Request → Option (Text × Purpose)
 kept_in (Find story certificate frames strict places false false) = Some (certificate, Certificate)
-kept_in (Play story certificate seed budget status (Some save) tell false) = Some (save, Save)
+kept_in (Play story certificate seed budget status (Some save) tell false lenient) = Some (save, Save)
 kept_in (Unpack story save out false) = Some (out, Save)
 kept_in request = None
 

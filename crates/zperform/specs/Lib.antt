@@ -10,6 +10,7 @@ pub mod Keeping
 pub mod Listing
 pub mod Showing
 pub mod Marking
+pub mod Excusing
 pub mod Finding
 pub mod Informing
 pub mod Wording

@@ -13,6 +13,7 @@ use Rattle.zperform.specs.Blaming.{IsUnread, IsUnreadOf, IsUnreadOrUnwritten}
 use Rattle.zperform.specs.Devices.{Breaks, Devices, FlushesUnless, Held, Says, Seen, Takes, UsesUnless}
 use Rattle.zperform.specs.Checking.{CheckEachComesTo}
 use Rattle.zperform.specs.Accepting.{CheckComesTo, IsOfEither, PlayComesTo}
+use Rattle.zperform.specs.Excusing.{PlaysExcused, SaysExcused}
 use Rattle.zperform.specs.Finding.{ExplainComesTo}
 use Rattle.zperform.specs.Informing.{InfoComesTo, name_of_certificate}
 use Rattle.zperform.specs.Keeping.{IsOccupied, MayWrite}
@@ -110,9 +111,11 @@ Comes (Check story certificate false) files later input aside refusals before no
 Comes (Check story certificate true) files later input aside refusals before now outcome = CheckEachComesTo true (Some certificate) (story ∷ []) files later before now outcome
 Comes (CheckEach stories json) files later input aside refusals before now outcome = CheckEachComesTo json None stories files later before now outcome
 Comes (Show story certificate address) files later input aside refusals before now outcome = ShowComesTo (files.known story) (files.known certificate) address before now outcome
-Comes (Play story None seed budget status save tell force) files later input aside refusals before now outcome =
+Comes (Play story certificate seed budget status save tell force true) files later input aside refusals before now outcome =
+    PlaysExcused files story certificate aside (record { budget = budget; status = status }) (given input seed (store_of save)) refusals before now outcome
+Comes (Play story None seed budget status save tell force false) files later input aside refusals before now outcome =
     PlaysBeside files later story save aside (record { budget = budget; status = status }) (given input seed (store_of save)) refusals before now outcome
-Comes (Play story (Some certificate) seed budget status save tell force) files later input aside refusals before now outcome =
+Comes (Play story (Some certificate) seed budget status save tell force false) files later input aside refusals before now outcome =
     PlayComesTo (files.known story) (files.known certificate) (record { budget = budget; status = status }) (given input seed (store_of save)) refusals before now outcome
 Comes (Info story json) files later input aside refusals before now outcome = InfoComesTo json story files.known before now outcome
 Comes (Explain code json) files later input aside refusals before now outcome = ExplainComesTo code json before now outcome
@@ -126,7 +129,7 @@ Begins request files later input aside refusals before now outcome =
 
 -- a request whose answer needs no input
 abbrev pub is_quiet : Request → Bool
-is_quiet (Play story certificate seed budget status save tell force) = false
+is_quiet (Play story certificate seed budget status save tell force lenient) = false
 is_quiet _ = true
 
 -- a request that goes through stories one after another, and tells of each what it comes to
@@ -139,14 +142,15 @@ is_each request = false
 
 -- the name of a file of which a failure needn't end a request, if there is one: that for saves, or a certificate beside a story
 abbrev pub spared_in : Request → Option Text
-spared_in (Play story None seed budget status save tell force) = spared_beside save story
-spared_in (Play story (Some certificate) seed budget status save tell force) = save
+spared_in (Play story certificate seed budget status save tell force true) = save
+spared_in (Play story None seed budget status save tell force false) = spared_beside save story
+spared_in (Play story (Some certificate) seed budget status save tell force false) = save
 spared_in (Info story json) = Some (name_of_certificate story)
 spared_in request = None
 
 -- the name of the file that saves are kept in, if a request has one
 abbrev pub save_in : Request → Option Text
-save_in (Play story certificate seed budget status save tell force) = save
+save_in (Play story certificate seed budget status save tell force lenient) = save
 save_in _ = None
 
 -- the name of the file that a request may write
@@ -157,12 +161,14 @@ written_by request = save_in request
 
 -- the refusals that are said of those that a request met, the newest first
 abbrev pub said_by : Request → List SaveError → List SaveError
-said_by (Play story certificate seed budget status save tell force) refusals = said_of tell save refusals
+said_by (Play story certificate seed budget status save tell force lenient) refusals = said_of tell save refusals
 said_by _ refusals = []
 
--- what became of the certificate beside a story that is played with none named is told, and then each save that is refused
+-- what became of the certificate beside a story that is played with none named is told, and then each save that is refused; of a lenient
+-- play each of these, and then the faults that were answered
 abbrev pub SaysFor : Request → Aside → List SaveError → Seen → Seen → Type 0
-SaysFor (Play story None seed budget status save tell force) aside refusals old new = SaysAll story aside (said_of tell save refusals) old new
+SaysFor (Play story certificate seed budget status save tell force true) aside refusals old new = SaysExcused aside (said_of tell save refusals) old new
+SaysFor (Play story None seed budget status save tell force false) aside refusals old new = SaysAll story aside (said_of tell save refusals) old new
 SaysFor request aside refusals old new = SaysEach (said_by request refusals) old new
 
 -- which file a failure of files is of, by what is asked for
@@ -176,8 +182,8 @@ IsBlamed (Check story certificate false) files = IsOfEither files story certific
 IsBlamed (Check story certificate true) files = ⊥
 IsBlamed (CheckEach stories json) files = ⊥
 IsBlamed (Show story certificate address) files = IsOfEither files story certificate
-IsBlamed (Play story None seed budget status save tell force) files = files.can_fail story ≡ true
-IsBlamed (Play story (Some certificate) seed budget status save tell force) files = IsOfEither files story certificate
+IsBlamed (Play story None seed budget status save tell force lenient) files = files.can_fail story ≡ true
+IsBlamed (Play story (Some certificate) seed budget status save tell force lenient) files = IsOfEither files story certificate
 IsBlamed (Info story json) files = files.can_fail story ≡ true
 IsBlamed (Explain code json) files = ⊥
 IsBlamed (Unpack story save out force) files = IsOfThree files story save out
@@ -192,15 +198,15 @@ IsToldOf NotOne blamed = ⊥
 IsToldOf (Check story certificate json) blamed = IsUnreadOf story certificate blamed
 IsToldOf (CheckEach stories json) blamed = ⊥
 IsToldOf (Show story certificate address) blamed = IsUnreadOf story certificate blamed
-IsToldOf (Play story None seed budget status save tell force) blamed = IsUnread story blamed
-IsToldOf (Play story (Some certificate) seed budget status save tell force) blamed = IsUnreadOf story certificate blamed
+IsToldOf (Play story None seed budget status save tell force lenient) blamed = IsUnread story blamed
+IsToldOf (Play story (Some certificate) seed budget status save tell force lenient) blamed = IsUnreadOf story certificate blamed
 IsToldOf (Info story json) blamed = IsUnread story blamed
 IsToldOf (Explain code json) blamed = ⊥
 IsToldOf (Unpack story save out force) blamed = IsUnreadOfThree story save out blamed
 
 -- what is done of a request: where words are told, as on a terminal, a play tells of each save that is refused, asked for or not
 abbrev pub spoken : Speech → Request → Request
-spoken Words (Play story certificate seed budget status save tell force) = Play story certificate seed budget status save true force
+spoken Words (Play story certificate seed budget status save tell force lenient) = Play story certificate seed budget status save true force lenient
 spoken speech request = request
 
 -- A request, with the values among clap's matches: what it comes to is reported, if its file may be written over, behind what is said of a certificate that stands beside a story

@@ -1,6 +1,7 @@
 -- What calls that play say, by what is told of the devices (own).
 use Rattle.std.specs.Prelude.{◌≡◌, ℕ, List, [], Option, Some, None, Result, option_map}
 use Rattle.zquetzal.specs.declared.error.SaveError.{SaveError}
+use Rattle.zplayer.specs.Leniently.{Noted}
 use Rattle.zplayer.specs.Outside.{Coming}
 use Rattle.zplayer.specs.World.{Kept, Store, World, told, world}
 use Rattle.zcheck.specs.declared.judged.Judged.{Judged}
@@ -23,9 +24,9 @@ abbrev pub Account : Type 1
 Account = World → List SaveError → Option (List ℕ) → Option (List ℕ) → Outcome → Type 0
 
 -- what is said of a play of what is accepted, with marks or without
-abbrev pub ComesOfEither : {A M : Type 0} → (A → Options → Account) → (M → Options → Account) → Judged A M → Options → Account
-ComesOfEither whole marked (Whole a) options = whole a options
-ComesOfEither whole marked (Marked m) options = marked m options
+abbrev pub ComesOfEither : {A M : Type 0} → (A → Options → Noted → Account) → (M → Options → Noted → Account) → Judged A M → Options → Noted → Account
+ComesOfEither whole marked (Whole a) options noted = whole a options noted
+ComesOfEither whole marked (Marked m) options noted = marked m options noted
 
 -- the name of the file that the saves of a play are kept in, if it has one
 abbrev pub file_of : Asked → Option (List ℕ)

@@ -7,7 +7,7 @@ ghost use Rattle.zstory.specs.Bytes.{byte_at};
 ghost use Rattle.zperform.specs.Blaming.{IsUnread, IsUnreadOf};
 ghost use Rattle.zperform.specs.Devices.{ReadsUnless, held};
 ghost use Rattle.zperform.specs.Playing.{Holds, IsUnloaded};
-ghost use Rattle.zperform.specs.Accepting.{HoldsStory, IsAcceptedStory, IsNoStory, IsJudgedOf, IsOfEither, IsUnaccepted, IsUnacceptedStory, marks_of, version_of};
+ghost use Rattle.zperform.specs.Accepting.{HoldsStory, IsAcceptedStory, IsNoStory, IsJudgedOf, IsOfEither, IsUnaccepted, IsUnacceptedStory, marks_of, story_in, story_of, version_of};
 
 use crate::feeding::{HEADING, feed_certificate};
 use crate::files::{Files, read_file};
@@ -42,6 +42,26 @@ impl AcceptedStory {
             AcceptedStory::Intervals(judged) => marks_in(judged),
             AcceptedStory::Lists(judged) => marks_in(judged),
         }
+    }
+
+    /// The story.
+    pub fn story(&self) -> &Story
+        ensures { result.now ≡ story_of self.now }
+    {
+        match self {
+            AcceptedStory::Intervals(judged) => story_in(judged),
+            AcceptedStory::Lists(judged) => story_in(judged),
+        }
+    }
+}
+
+/// The story that is accepted.
+fn story_in<V: Spelled>(judged: &Judged<Accepted<V>, Marked<V>>) -> &Story
+    ensures { result.now ≡ story_in judged.now }
+{
+    match judged {
+        Judged::Whole(accepted) => accepted.story(),
+        Judged::Marked(marked) => marked.story(),
     }
 }
 

@@ -7,6 +7,7 @@ mod blame;
 mod checking;
 mod claims;
 mod each;
+mod excusing;
 mod explaining;
 mod feeding;
 mod files;

@@ -1,8 +1,9 @@
 //! The line that says what a command came to, made with no memory.
 
-ghost use Rattle.std.specs.Prelude.{◌≡◌, ◌<◌, ◌≤◌, ◌+◌, ◌++◌, [], codes, length, decimal, pos};
+ghost use Rattle.std.specs.Prelude.{◌≡◌, ◌<◌, ◌≤◌, ◌+◌, ◌++◌, ◌∷◌, [], codes, length, decimal, pos};
 ghost use Rattle.zfind.specs.Finding.{number_of as find_number};
 ghost use Rattle.zlist.specs.Listed.{number_of, place_of};
+ghost use Rattle.zperform.specs.Excusing.{count_line, warning_text};
 ghost use Rattle.zperform.specs.Telling.{refusal_text};
 ghost use Rattle.zperform.specs.Report.{accepted_line, address_text, broken_text, end_text, failure_text, first_text, found_line, hex_digit, line_of, marks_text, place_text, rest_text, stopped_text, text_of, why_text};
 
@@ -13,7 +14,7 @@ use std::marker::Model;
 use zfault::Fault;
 use zfind::{FindError, Obstacle};
 use zlist::ListError;
-use zplayer::End;
+use zplayer::{Answered, End};
 use zquetzal::SaveError;
 
 /// The most bytes that a text has room for.
@@ -87,6 +88,38 @@ impl Message {
     {
         let mut message = Message::new();
         message.push_fault(fault, place);
+        message
+    }
+
+    /// The line of a fault that was answered, without its end.
+    pub fn of_answered(answered: Answered) -> Message
+        ensures { result ≡ warning_text answered }
+    {
+        let mut message = Message::new();
+        message.push_warning(answered);
+        message
+    }
+
+    /// The same line with its end.
+    pub fn of_warning(answered: Answered) -> Message
+        ensures { result ≡ warning_text answered ++ 10 ∷ [] }
+    {
+        let mut message = Message::new();
+        message.push_warning(answered);
+        message.push(b"\n");
+        message
+    }
+
+    /// The line that says how many faults were answered, with its end; empty where none were.
+    pub fn of_count(count: u64) -> Message
+        ensures { result ≡ count_line count }
+    {
+        let mut message = Message::new();
+        if count > 0 {
+            message.push(b"faults answered: ");
+            message.push(Buffer::new().format(count).as_bytes());
+            message.push(b"\n");
+        }
         message
     }
 
@@ -326,6 +359,17 @@ impl Message {
         self.push_number(fault.number());
         self.push(b" at ");
         self.push_place(place);
+    }
+
+    fn push_warning(&mut self, answered: Answered)
+        requires { self.old ≡ [] }
+        ensures text { self.new ≡ warning_text answered }
+        ensures most { length self.new ≤ 28 }
+    {
+        self.push(b"warning: F");
+        self.push_number(answered.fault.number());
+        self.push(b" at ");
+        self.push_place(answered.place);
     }
 
     fn push_number(&mut self, number: u8)

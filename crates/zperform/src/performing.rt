@@ -18,6 +18,7 @@ ghost use Rattle.zquetzal.specs.declared.error.SaveError.{SaveError as ARefusal}
 use crate::accepting::accept;
 use crate::blame::Blame;
 use crate::checking::check_each;
+use crate::excusing::play_excused;
 use crate::explaining::explain_code;
 use crate::files::Files;
 use crate::finding::Search;
@@ -93,6 +94,7 @@ fn spoken<'s, 'a>(command: Command<'s, 'a>, speech: Speech) -> Command<'s, 'a>
                 status,
                 save,
                 force,
+                lenient,
                 ..
             },
         ) => Command::Play {
@@ -104,6 +106,7 @@ fn spoken<'s, 'a>(command: Command<'s, 'a>, speech: Speech) -> Command<'s, 'a>
             save,
             tell: true,
             force,
+            lenient,
         },
         _ => command,
     }
@@ -260,6 +263,7 @@ fn fulfil<F: Files, R: Source, W: Sink, E: Sink>(
             status,
             save,
             tell,
+            lenient,
             ..
         } => {
             let options = Options { budget, status };
@@ -271,6 +275,13 @@ fn fulfil<F: Files, R: Source, W: Sink, E: Sink>(
             };
             let mut devices = Devices::new(files, reader, writer, errors);
             match certificate {
+                _ if lenient => outcome_of(play_excused(
+                    alloc,
+                    story,
+                    certificate,
+                    asked,
+                    &mut devices,
+                )),
                 None => outcome_of(play(alloc, story, asked, &mut devices)),
                 Some(certificate) => outcome_of(play_by_certificate(
                     alloc,

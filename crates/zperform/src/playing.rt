@@ -2,12 +2,15 @@
 
 ghost use Rattle.std.specs.Prelude.{◌≡◌, ◌≢◌, ℕ, true, IsErrOf, List, None, Option, Some, take};
 ghost use Rattle.zplayer.specs.Devices.{SameDevices as SameWorld};
+ghost use Rattle.zlenient.specs.Front.{opened};
+ghost use Rattle.zplayer.specs.Leniently.{Noted};
 ghost use Rattle.zplayer.specs.Outside.{Blames};
 ghost use Rattle.zplayer.specs.declared.end.Options.{Options as HowToPlay};
 ghost use Rattle.zperform.specs.Blaming.{IsUnread, IsUnreadOf};
 ghost use Rattle.zperform.specs.Accepting.{IsAccepted, IsAcceptedStory, IsMarkedOf, IsOfEither, PlayComesTo, PlayEnds};
 ghost use Rattle.zperform.specs.Beside.{Aside, PlaysBeside, SaysAll, spared_beside};
 ghost use Rattle.zperform.specs.Devices.{FlushesUnless, UsesUnless, held, seen};
+ghost use Rattle.zperform.specs.Excusing.{none_noted};
 ghost use Rattle.zperform.specs.Performing.{given, store_of};
 ghost use Rattle.zperform.specs.Played.{Account, ComesOfEither, ComesOut, ComesOutIn, ComesOutOf, SameDevices, file_of};
 ghost use Rattle.zperform.specs.Playing.{ComesTo, Holds};
@@ -25,7 +28,7 @@ use zcert::Spelled;
 use zcheck::{Accepted, Judged, Marked};
 use zfault::{Sink, Source};
 use zplay::Session;
-use zplayer::{End, Options, SaveStore, Seeded, Words, World, play_checked, play_story};
+use zplayer::{End, Lenience, Options, SaveStore, Seeded, Words, World, play_checked, play_story};
 use zref::{CheckedMachine, Scope};
 use zstory::Story;
 
@@ -79,18 +82,20 @@ impl<'a, F, R, W, E> Devices<'a, F, R, W, E> {
 
 /// What can be played from its opening.
 pub trait Playable {
-    /// What is said of how a play of it comes out.
-    ghost Comes: { Self → HowToPlay → Account };
+    /// What is said of how a play of it comes out, by the faults that were answered.
+    ghost Comes: { Self → HowToPlay → Noted → Account };
 
-    /// Plays it with the devices of a world.
+    /// Plays it with the devices of a world. What is answered of faults is noted, if any are.
     fn play<R: Source, W: Sink, S: SaveStore, G: Words>(
         &self,
         alloc: Global,
         options: Options,
+        lenience: &mut Lenience,
         world: &mut World<'_, R, W, S, G>,
     ) -> Result<End, Problem>
+        requires opened { lenience.old ≡ record { front = opened; notes = none_noted } }
         ensures devices { SameWorld world.old world.new }
-        ensures comes { ComesOutIn R.remaining G.coming S.kept S.failures W.contents S.Follows (Comes self.now options) world.old world.new result }
+        ensures comes { ComesOutIn R.remaining G.coming S.kept S.failures W.contents S.Follows (Comes self.now options lenience.new.notes) world.old world.new result }
         ensures writer { FlushesUnless W.failures W.waits world.old.writer.now world.new.writer.now (IsErrOf result (Problem.Failed Failure.Write)) }
         ensures no_file { ¬ IsErrOf result (Problem.Failed Failure.File) }
         ensures reader { Blames (IsErrOf result (Problem.Failed Failure.Read)) (R.failures world.old.reader.now) (R.failures world.new.reader.now) };
@@ -98,12 +103,13 @@ pub trait Playable {
 
 /// A story is checked as it is played.
 impl Playable for Story {
-    ghost Comes = { λ story options given refusals before now outcome. (file : List ℕ) → Holds file story → ComesTo (Some file) options given refusals before now outcome };
+    ghost Comes = { λ story options noted given refusals before now outcome. (file : List ℕ) → Holds file story → ComesTo (Some file) options given refusals before now outcome };
 
     fn play<R: Source, W: Sink, S: SaveStore, G: Words>(
         &self,
         alloc: Global,
         options: Options,
+        _lenience: &mut Lenience,
         world: &mut World<'_, R, W, S, G>,
     ) -> Result<End, Problem> {
         let mut machine = CheckedMachine::new(alloc, self, Scope::All)?;
@@ -114,12 +120,13 @@ impl Playable for Story {
 
 /// One that is accepted meets no fault.
 impl<V: Spelled> Playable for Accepted<V> {
-    ghost Comes = { λ accepted options given refusals before now outcome. (story certificate : Option (List ℕ)) → IsAccepted V.operations V.format story certificate accepted → PlayEnds V.operations V.format story certificate options given refusals before now outcome };
+    ghost Comes = { λ accepted options noted given refusals before now outcome. (story certificate : Option (List ℕ)) → IsAccepted V.operations V.format story certificate accepted → PlayEnds V.operations V.format story certificate options given refusals before now outcome };
 
     fn play<R: Source, W: Sink, S: SaveStore, G: Words>(
         &self,
         alloc: Global,
         options: Options,
+        _lenience: &mut Lenience,
         world: &mut World<'_, R, W, S, G>,
     ) -> Result<End, Problem> {
         let mut session = Session::start(alloc, self)?;
@@ -130,12 +137,13 @@ impl<V: Spelled> Playable for Accepted<V> {
 
 /// One that is accepted but where it is marked is checked as it is played, with as many frames as its certificate says.
 impl<V: Spelled> Playable for Marked<V> {
-    ghost Comes = { λ marked options given refusals before now outcome. (story certificate : Option (List ℕ)) → IsMarkedOf V.operations V.format story certificate marked → PlayEnds V.operations V.format story certificate options given refusals before now outcome };
+    ghost Comes = { λ marked options noted given refusals before now outcome. (story certificate : Option (List ℕ)) → IsMarkedOf V.operations V.format story certificate marked → PlayEnds V.operations V.format story certificate options given refusals before now outcome };
 
     fn play<R: Source, W: Sink, S: SaveStore, G: Words>(
         &self,
         alloc: Global,
         options: Options,
+        _lenience: &mut Lenience,
         world: &mut World<'_, R, W, S, G>,
     ) -> Result<End, Problem> {
         let limit = self.certificate().frame_limit();
@@ -147,17 +155,18 @@ impl<V: Spelled> Playable for Marked<V> {
 
 /// The one or the other.
 impl<A: Playable, M: Playable> Playable for Judged<A, M> {
-    ghost Comes = { λ judged options. ComesOfEither A.Comes M.Comes judged options };
+    ghost Comes = { ComesOfEither A.Comes M.Comes };
 
     fn play<R: Source, W: Sink, S: SaveStore, G: Words>(
         &self,
         alloc: Global,
         options: Options,
+        lenience: &mut Lenience,
         world: &mut World<'_, R, W, S, G>,
     ) -> Result<End, Problem> {
         match self {
-            Judged::Whole(accepted) => accepted.play(alloc, options, world),
-            Judged::Marked(marked) => marked.play(alloc, options, world),
+            Judged::Whole(accepted) => accepted.play(alloc, options, lenience, world),
+            Judged::Marked(marked) => marked.play(alloc, options, lenience, world),
         }
     }
 }
@@ -209,7 +218,7 @@ fn play_file<F: Files, R: Source, W: Sink, E: Sink>(
     ensures spared { (other : List ℕ) → file_of asked.entry ≢ Some other → F.known devices.new.files.now other ≡ F.known devices.old.files.now other }
 {
     let story = load_bytes(alloc, file)?;
-    play_saving(alloc, &story, asked, devices)
+    play_saving(alloc, &story, asked, &mut Lenience::opened(alloc), devices)
 }
 
 /// Plays a story that is accepted with a certificate, each in its file.
@@ -247,21 +256,26 @@ fn play_accepted<F: Files, R: Source, W: Sink, E: Sink>(
     ensures unsaved { file_of asked.entry ≡ None → devices.new.files.now ≡ devices.old.files.now }
     ensures spared { (other : List ℕ) → file_of asked.entry ≢ Some other → F.known devices.new.files.now other ≡ F.known devices.old.files.now other }
 {
+    let mut lenience = Lenience::opened(alloc);
     match accepted {
-        AcceptedStory::Intervals(judged) => play_saving(alloc, judged, asked, devices),
-        AcceptedStory::Lists(judged) => play_saving(alloc, judged, asked, devices),
+        AcceptedStory::Intervals(judged) => {
+            play_saving(alloc, judged, asked, &mut lenience, devices)
+        }
+        AcceptedStory::Lists(judged) => play_saving(alloc, judged, asked, &mut lenience, devices),
     }
 }
 
 /// Plays from an opening, with the saves in the file of a name, or nowhere.
-fn play_saving<P: Playable, F: Files, R: Source, W: Sink, E: Sink>(
+pub fn play_saving<P: Playable, F: Files, R: Source, W: Sink, E: Sink>(
     alloc: Global,
     playable: &P,
     asked: Asked<'_>,
+    lenience: &mut Lenience,
     devices: &mut Devices<'_, F, R, W, E>,
 ) -> Result<End, Problem>
+    requires opened { lenience.old ≡ record { front = opened; notes = none_noted } }
     ensures devices { SameDevices devices.old devices.new }
-    ensures comes { ComesOut R.remaining W.contents (seen E.contents E.failures E.waits) (P.Comes playable.now asked.entry.options) asked.entry devices.old devices.new result }
+    ensures comes { ComesOut R.remaining W.contents (seen E.contents E.failures E.waits) (P.Comes playable.now asked.entry.options lenience.new.notes) asked.entry devices.old devices.new result }
     ensures writer { FlushesUnless W.failures W.waits devices.old.writer.now devices.new.writer.now (IsErrOf result (Problem.Failed Failure.Write)) }
     ensures no_file { ¬ IsErrOf result (Problem.Failed Failure.File) }
     ensures reader { Blames (IsErrOf result (Problem.Failed Failure.Read)) (R.failures devices.old.reader.now) (R.failures devices.new.reader.now) }
@@ -275,6 +289,7 @@ fn play_saving<P: Playable, F: Files, R: Source, W: Sink, E: Sink>(
                 alloc,
                 playable,
                 asked,
+                lenience,
                 &mut store,
                 devices.reader,
                 devices.writer,
@@ -284,6 +299,7 @@ fn play_saving<P: Playable, F: Files, R: Source, W: Sink, E: Sink>(
             alloc,
             playable,
             asked,
+            lenience,
             &mut NoSaves::new(),
             devices.reader,
             devices.writer,
@@ -296,16 +312,18 @@ fn play_keeping<P: Playable, S: SaveStore, R: Source, W: Sink>(
     alloc: Global,
     playable: &P,
     asked: Asked<'_>,
+    lenience: &mut Lenience,
     store: &mut S,
     reader: &mut R,
     writer: &mut W,
 ) -> Result<End, Problem>
-    ensures comes { ComesOutOf S.kept S.failures S.Follows (λ s. P.Comes playable.now asked.entry.options (given (R.remaining reader.old) asked.entry.seed s)) store.old store.new (W.contents writer.old) (W.contents writer.new) result }
+    requires opened { lenience.old ≡ record { front = opened; notes = none_noted } }
+    ensures comes { ComesOutOf S.kept S.failures S.Follows (λ s. P.Comes playable.now asked.entry.options lenience.new.notes (given (R.remaining reader.old) asked.entry.seed s)) store.old store.new (W.contents writer.old) (W.contents writer.new) result }
     ensures writer { FlushesUnless W.failures W.waits writer.old writer.new (IsErrOf result (Problem.Failed Failure.Write)) }
     ensures no_file { ¬ IsErrOf result (Problem.Failed Failure.File) }
     ensures reader { Blames (IsErrOf result (Problem.Failed Failure.Read)) (R.failures reader.old) (R.failures reader.new) }
 {
     let mut words = Seeded::new(asked.seed);
     let mut world = World::new(reader, writer, store, &mut words);
-    playable.play(alloc, asked.options, &mut world)
+    playable.play(alloc, asked.options, lenience, &mut world)
 }

@@ -147,7 +147,12 @@ fn add_blame(blame: Option<&Blame>, text: &mut Vec<u8>) -> Result<(), AllocError
 }
 
 /// Adds what the code of a letter and a number means, in a few words.
-fn add_short(alloc: Global, letter: &str, number: u8, text: &mut Vec<u8>) -> Result<(), AllocError>
+pub fn add_short(
+    alloc: Global,
+    letter: &str,
+    number: u8,
+    text: &mut Vec<u8>,
+) -> Result<(), AllocError>
     ensures { IfOk result (λ _. text.new.items ≡ text.old.items ++ short_text (letter.now ++ decimal number)) }
 {
     let mut code = String::from_str(alloc, letter)?;

@@ -1,5 +1,8 @@
-use Rattle.std.proofs.Common.{[], refl, rules}
+use Rattle.std.proofs.Common.{[], refl, rules, sym}
+use Rattle.std.specs.Prelude.{option_map}
 use Rattle.zperform.specs.Beside.{Unsought}
+use Rattle.zperform.specs.Devices.{held}
+use Rattle.zperform.proofs.ExcusingLemmas.{plays_back, says_back}
 use Rattle.zperform.proofs.PerformLemmas.{as_outcome, files_as_outcome, writer_as_outcome}
 use Rattle.zperform.proofs.performing.fulfil.Goals as goal
 
@@ -40,3 +43,20 @@ returns-in-Unpack-clause-could g c = rw c.in-Unpack.is c.unpack_file.ensures.cou
 
 pub returns-in-Unpack-clause-blamed : goal.returns-in-Unpack-clause-blamed
 returns-in-Unpack-clause-blamed g c = rw c.in-Unpack.is c.unpack_file.ensures.blamed
+
+pub returns-in-Explain-clause-comes : goal.returns-in-Explain-clause-comes
+returns-in-Explain-clause-comes g c = rw c.in-Explain.is (Unsought, [], c.explain_code.ensures.comes, refl)
+
+pub returns-then-lenient-clause-comes : goal.returns-then-lenient-clause-comes
+returns-then-lenient-clause-comes g c =
+    let play = c.in-Play in
+    let of = held g.F.Files.known g.F.Files.failures g.F.Files.can_fail g.F.Files.blamed in
+    let came = c.play_excused.ensures.comes in
+    rw play.is
+    (rw c.if-lenient.true (
+      came.0,
+      came.1,
+      plays_back play.story.now (option_map (λ c. c.now) play.certificate) came.0 (record { budget = play.budget; status = play.status }) play.seed (option_map (λ f. f.now) play.save) came.1 (of c.args.files.now) (of c.new-devices.result.files.now) (g.R.Source.remaining c.args.reader.now) (g.R.Source.remaining c.new-devices.result.reader.now) (g.W.Sink.contents c.args.writer.now) (g.W.Sink.contents c.new-devices.result.writer.now) _ (g.W.Sink.contents c.play_excused.new.devices.writer.now) _ _
+          (search rules) (search rules) (search rules) (search rules) (sym c.outcome_of.ensures) came.2,
+      says_back came.0 _ _ _ _ _ (search rules) (search rules) came.3,
+    ))
