@@ -83,14 +83,26 @@ def functions_of(source, text):
         if match[1]:
             block = [it for it in BLOCK.finditer(text, 0, match.start())][-1]
             trait = (block[1] or "").rpartition("::")[2]
+            head = "" if block[1] or block[4] else text[block.start() : text.find("{", block.start())]
             # what a trait is given is a part of the path, as in `ProblemFromLoadError`
-            owner = f"{block[3] or block[4]}{trait if block[3] else ''}{''.join(heads_of(block[2] or ''))}"
+            owner = f"{block[3] or block[4]}{trait if block[3] else ''}{''.join(heads_of(block[2] or ''))}{instance_of(head)}"
         body = body_of(text, match, following)
         path = f"{owner}::{match[2]}".removeprefix("::")
         is_of_trait = bool(match[1] and (block[1] or block[4]))
         inside = text[brace_of(text, match, following) : end]
         found.append(Function(path, match.start(), end, (body, end) if body else None, is_of_trait, calls_itself(path, module, bool(match[1]), inside)))
     return found
+
+
+def instance_of(head):
+    """What the prover adds to the name of a type in a block of one instance of it, as `+R+Tested` in `impl<'a, R: Rows> Machine<'a, R, Tested>`.
+    Such a block's functions are named by its own module."""
+    found = re.match(r"impl(?:<(.*?)>)? \w+<(.*)>\s*$", head, re.S)
+    if not found:
+        return ""
+    own = set(re.findall(r"(?:^|,)\s*(\w+)", found[1] or ""))
+    names = [it.strip() for it in found[2].split(",") if not it.strip().startswith("'")]
+    return "".join(f"+{it}" for it in names) if any(it not in own for it in names) else ""
 
 
 def heads_of(arguments):

@@ -6,12 +6,13 @@ import re
 import certificates
 import marking
 from instructions import Listing, NoInstruction, decode, line_of
+from lenient import LenientMachine
 from machine import Machine, Store
 from known import Known
 from rules import instruction_fault, judge
 from stories import Refused, Story
 
-REASONS = {}  # the first line that `explain` has of each rule: tests/program/finding.py holds its texts
+REASONS = {}  # the first line that `explain` has of each rule and fault: tests/program/finding.py holds its texts
 
 
 def at(place):
@@ -132,15 +133,19 @@ def played(case, tally):
     if is_kept_from(options, case.files.get("saved", b"")):
         raise Refused("N2")
     tally.codes["played with marks" if certificate and certificate.marks else "played with a certificate"] += certificate is not None
-    store = Store(case.files.get("saved"), certificate) if "--save" in options else None
-    machine = Machine(story, int(options.get("--seed", 1)), case.typed, "--status" in options, store, tally.opcodes)
-    machine.limit = certificate.limit if certificate else machine.limit
+    is_lenient = "--lenient" in options
+    store = Store(case.files.get("saved"), None if is_lenient else certificate) if "--save" in options else None
+    kind = LenientMachine if is_lenient else Machine
+    machine = kind(story, int(options.get("--seed", 1)), case.typed, "--status" in options, store, tally.opcodes)
+    machine.limit = certificate.limit if certificate and not is_lenient else machine.limit
     end = machine.run(int(options["--budget"]))
     for code in machine.told:
         tally.codes[code] += 1
     if machine.resumed:
         tally.codes["restored" + (" with marks" if certificate and certificate.marks else " with a certificate" if certificate else "")] += 1
     told = b"".join(b"save refused: %s\n" % it.encode() for it in machine.told) if "--tell" in options else b""
+    if is_lenient:
+        told += warnings_of(machine, tally)
     saved = store.contents if store else None
     if isinstance(end, int):
         tally.codes[f"F{end}"] += 1
@@ -149,8 +154,21 @@ def played(case, tally):
     return 0, machine.output, told + (b"" if end == "quit" else b"end: %s\n" % end.encode()), saved
 
 
+def in_short(code):
+    """What a code means: the first line of its explanation without the code and the last point."""
+    return REASONS[code].partition(b": ")[2].removesuffix(b".")
+
+
+def warnings_of(machine, tally):
+    """A line for the first fault of each place, and how many were answered."""
+    for number in machine.firsts.values():
+        tally.codes[f"F{number}, answered"] += 1
+    lines = [b"warning: F%d at %s: %s\n" % (number, at(place), in_short(f"F{number}")) for place, number in machine.firsts.items()]
+    return b"".join(lines) + (b"faults answered: %d\n" % machine.count if machine.count else b"")
+
+
 COMMANDS = {"list": listed, "check": checked, "play": played}
-FLAGS = {"--status", "--tell", "--force", "--strict", "--places"}
+FLAGS = {"--status", "--tell", "--lenient", "--force", "--strict", "--places"}
 PLACE = rb"( at ([0-9a-f]{5}|-[0-9]+|[0-9]{7,}))?"  # as `at` tells it
 NONE_FOUND = re.compile(
     rb"refused: (?:G1\nbroken: (S[1-8])|(G[12])" + PLACE + rb"\n(no certificate: [SIU][0-9]{1,2}" + PLACE + rb"|not found))\n"

@@ -61,6 +61,10 @@ def options(draw):
     return found
 
 
+def lenience(draw, rate):
+    return ["--lenient"] if draw.random() < rate else []
+
+
 class Drawer:
     """Draws the cases of a seed, by their numbers."""
 
@@ -83,7 +87,10 @@ class Drawer:
             asked = ["--frames", str(draw.choice([0, 1, 7, 1024, 4096]))] if draw.random() < 0.3 else []
             asked += [it for it, rate in (("--strict", 0.2), ("--places", 0.4)) if draw.random() < rate]
             return Case(["find", *asked, "story", "found"], {"story": story})
-        return Case(["play", *options(draw), "story"], {"story": story}, typed(draw))
+        asked = lenience(draw, 0.5)
+        if asked and draw.random() < 0.4:
+            story = worlds.story(draw, draw.choice([1 / 100, 1 / 20, 1 / 5]), windows=draw.choice([0, 1 / 20, 1 / 5]))
+        return Case(["play", *options(draw), *asked, "story"], {"story": story}, typed(draw))
 
     def story(self, draw):
         kind = draw.random()
@@ -115,7 +122,7 @@ class Drawer:
         if self.forces and draw.random() < 0.15:
             files["saved"] = draw.choice([b"F", b"FORMS", b"f", b"ZPCC", b"FOR\0", b"\0", save or b"FORM", b"FO", bytes(20)])
             tell += ["--force"] if draw.random() < 0.5 else []
-        return Case(["play", *options(draw), *tell, "--save", "saved", "story"], files, lines)
+        return Case(["play", *options(draw), *lenience(draw, 0.3), *tell, "--save", "saved", "story"], files, lines)
 
     # ---- certificates
 
@@ -205,7 +212,7 @@ def accepting(draw, story, certificate):
         keeps = ["--tell", "--save", "saved"]
         if draw.random() < 0.7:
             files.update(save_for(draw, story, certificate, lines))
-    return Case(["play", *options(draw), *keeps, "story", "certificate"], files, lines)
+    return Case(["play", *options(draw), *lenience(draw, 0.2), *keeps, "story", "certificate"], files, lines)
 
 
 def marked(draw, story, certificate):

@@ -98,14 +98,14 @@ def lesser(case):
     if case.typed:
         yield Case(words, case.files)
         yield Case(words, case.files, case.typed.partition(b"\n")[0])
-    for option in ("--status", "--tell"):
+    for option in ("--status", "--tell", "--lenient"):
         if option in words:
             yield Case([it for it in words if it != option], case.files, case.typed)
 
 
 def compared(path, count, seed):
     program, tally, drawer = Program(path), Tally(), Drawer(seed, Program(path))
-    REASONS.update((code, program.run(["explain", code]).output.partition(b"\n")[0]) for code in CODES if code[0] == "I")
+    REASONS.update((code, program.run(["explain", code]).output.partition(b"\n")[0]) for code in CODES if code[0] in "FI")
     with concurrent.futures.ThreadPoolExecutor(AT_ONCE) as pool:
         for number, case, came in pool.map(lambda it: (it, *one(program, drawer.case(it))), range(count)):
             wanted = answer(case, tally, came)

@@ -274,6 +274,8 @@ class Code:
 
     def instruction(self):
         """Bytes of an instruction, and what is to be put at their end: None, "branch", or "jump" in their operand."""
+        if self.world.windows and self.draw.random() < self.world.windows:
+            return self.passed_over(), None
         name = self.name()
         if name in ("pull", "pop", "ret_popped"):
             if self.height < 1 and self.draw.random() >= self.world.hazard:
@@ -289,6 +291,16 @@ class Code:
         if name in ("print", "print_ret"):
             made += text(self.draw)
         return made, "branch" if name in BRANCHES else None
+
+    def passed_over(self):
+        """Bytes of an opcode that is out of the profile, with operands that mean something there or don't (Z 15)."""
+        draw, number = self.draw, self.draw.choice([10, 11, 11, 19, 19, 20, 21])
+        told = {11: [0, 0, 1], 19: [1, 1, 2, 0xFFFF]}.get(number)
+        operands = [(0, draw.choice(told))] if told and draw.random() < 0.8 else [self.operand("w") for _ in range(draw.randint(0, 3))]
+        types = 0
+        for kind, _ in (operands + [(3, 0)] * 4)[:4]:
+            types = types << 2 | kind
+        return bytes([0xE0 + number, types]) + b"".join(word(value) if kind == 0 else bytes([value]) for kind, value in operands)
 
     def drawn(self, count, at, last):
         """So many instructions from a place on, and a last one."""
@@ -344,10 +356,11 @@ def spelled(draw, name, operands):
     return bytes([first, types]) + values
 
 
-def story(draw, hazard=None, restores=False, crossing=0):
+def story(draw, hazard=None, restores=False, crossing=0, windows=0):
     """A story: some routines, of which each calls those before it and maybe itself, and the main code, which may begin with a `restore` and a `save`. As often as
-    `crossing` says code leads into other code, and jumps by variables."""
+    `crossing` says code leads into other code, and jumps by variables; as often as `windows` says opcodes stand that are out of the profile."""
     world = World(draw, draw.choice([0, 0, 1 / 100, 1 / 100, 1 / 20]) if hazard is None else hazard, crossing, restores and draw.random() < 0.3)
+    world.windows = windows
     code, begin = b"", world.static + len(world.back)
     if world.large:
         add_far(world)

@@ -10,6 +10,7 @@ import subprocess
 import sys
 import tempfile
 
+from excused import DEEP, DEEP_TOLD, LENIENT
 from lists import NAMINGS
 from program import Answer, Count, Program
 from samples import HELLO, QUIT, certificate, changed, printed, story, with_objects
@@ -39,9 +40,9 @@ class Devices:
             return answer, [tuple(line.split()) for line in file]
 
 
-def is_well(answer, calls, ample, error):
-    """Whether a run in which one call failed, with the calls that it made, answers as it should. The standard library itself opens
-    a file again where a signal interrupted that."""
+def is_well(answer, calls, ample, error, told):
+    """Whether a run in which one call failed, with the calls that it made, answers as it should, behind what it told before that. The standard
+    library itself opens a file again where a signal interrupted that."""
     at = next(index for index, call in enumerate(calls) if call[2] == "failed")
     kind, device, _ = calls[at]
     if kind == "open" and error == errno.EINTR:
@@ -51,20 +52,20 @@ def is_well(answer, calls, ample, error):
         return answer.status == ample.status and answer.output == ample.output and not after
     if (kind, device) == ("write", "1"):
         begun = ample.output.startswith(answer.output) and answer.output != ample.output
-        return (answer.status, answer.errors) == (4, b"failed: write\n") and begun and not after
+        return (answer.status, answer.errors) == (4, told + b"failed: write\n") and begun and not after
     if (kind, device) == ("read", "0"):
         return (answer.status, answer.errors) == (4, b"failed: read\n") and ample.output.startswith(answer.output) and not after
     return answer == Answer(4, b"", b"failed: file\n") and not after
 
 
-def see_each(devices, count, words, files, settings, typed=b""):
+def see_each(devices, count, words, files, settings, typed=b"", told=b""):
     """Has each call of a run fail in turn."""
     ample, calls = devices.run(words, files, settings, typed)
     assert calls, "the shim sees no call"
     for number in range(1, len(calls) + 1):
         for error in (errno.EIO, errno.EINTR):
             answer, made = devices.run(words, files, {**settings, "FAIL": number, "ERROR": error}, typed)
-            count.see(is_well(answer, made, ample, error), f"{' '.join(words)} with call {number} failing by {error}: {answer}, calls {made[number - 1:]}")
+            count.see(is_well(answer, made, ample, error, told), f"{' '.join(words)} with call {number} failing by {error}: {answer}, calls {made[number - 1:]}")
     return ample
 
 
@@ -196,6 +197,8 @@ def main():
         count.is_answer("reading by 400 bytes", ample, Answer(0, b"accepted\n", b""))
         answer, _ = devices.run(["play", "story", "certificate"], files, {"SHORT": 1})
         count.is_answer("a byte a call", answer, Answer(0, b"hello", b""))
+        ample = see_each(devices, count, LENIENT, {"story": DEEP}, {}, told=DEEP_TOLD)
+        count.is_answer("lenient play", ample, Answer(0, b"0", DEEP_TOLD))
         ample = see_each(devices, count, ["play", "story"], {"story": long}, {"SHORT": 300})
         count.see(len(ample.output) == 30 * 51, f"a longer story printed {len(ample.output)} bytes")
     count.end()

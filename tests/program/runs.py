@@ -15,6 +15,7 @@ from arrays import see_arrays
 from asides import see_asides
 from calls import see_calls
 from dear import see_dear
+from excused import see_excused
 from facts import see_facts
 from finding import see_finding
 from frames import see_frames
@@ -459,6 +460,7 @@ def main():
     see_frames(program, count)
     see_marks(program, count)
     see_showing(program, count, help_text("no_address.txt"))
+    see_excused(program, count)
     see_facts(program, count)
     see_stated(program, count)
     see_many(program, count, help_text("no_file_to_check.txt"), help_text("one_for_many.txt"))

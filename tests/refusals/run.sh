@@ -36,10 +36,22 @@ for name, contents in (
         file.write(contents)
 ' "$work") || exit 1
 
+# A story that meets five faults at three places, in the deeper of two routines.
+(cd "$here/../program" && python3 -c '
+import sys
+from excused import DEEP
+with open(f"{sys.argv[1]}/faults", "wb") as file:
+    file.write(DEEP)
+' "$work") || exit 1
+
 # what a play prints besides, where memory to read a save was refused: that is a failure of the store, which the story is told
 unrestored=
 # what each line is of many stories, where memory for one was refused: that is told in its line, and in the exit status
 each=
+
+# the lines on the errors where faults were answered: what a fault is, is left out of one where memory for that was refused, and where it was
+# refused for an answer, or to keep one, play ends
+warned=
 
 # answer NAME SETTINGS WORD..: the status, output and errors of a run, in files of that name. The settings are of the
 # program's environment alone.
@@ -54,6 +66,13 @@ answer() {
 # is_beginning FILE WHOLE
 is_beginning() {
     cmp -s "$1" <(head -c "$(stat -c %s "$1")" "$2")
+}
+
+# is_warned STATUS: whether a lenient play told of its faults, to its end or as far as it came
+is_warned() {
+    local ends=0
+    [ "$(tail -n 1 "$work/refused.err")" != "failed: memory" ] || ends=4
+    ! grep -qvE "$warned" "$work/refused.err" && is_beginning "$work/refused.out" "$work/ample.out" && [ "$1" = "$ends" ]
 }
 
 # one command, over every N
@@ -71,6 +90,8 @@ refuse_each() {
         elif [ "$(cat "$work/refused.status")" = 4 ] && [ "$(cat "$work/refused.err")" = "failed: memory" ] && is_beginning "$work/refused.out" "$work/ample.out"; then
             passed=$((passed + 1))
         elif [ -n "$each" ] && [ "$(cat "$work/refused.status")" = 4 ] && [ ! -s "$work/refused.err" ] && ! grep -qvE "$each" "$work/refused.out"; then
+            passed=$((passed + 1))
+        elif [ -n "$warned" ] && is_warned "$(cat "$work/refused.status")"; then
             passed=$((passed + 1))
         elif [ -n "$unrestored" ] && [ "$(cat "$work/refused.status")" = 0 ] && [ "$(cat "$work/refused.out")" = "$unrestored" ] && [ ! -s "$work/refused.err" ]; then
             passed=$((passed + 1))
@@ -142,6 +163,11 @@ refuse_each play --save "$work/kept" "$work/restores"
 refuse_each play --save "$work/deep" "$work/restores"
 refuse_each play --save "$work/kept" "$work/restores" "$work/restores.cert"
 unrestored=
+warned='^(warning: F(2|6|10) at 00[0-9a-f]{3}(: [a-z].*)?|faults answered: [1-5]|failed: memory)$'
+refuse_each play --lenient "$work/faults"
+refuse_each play --lenient --save "$work/new" "$work/faults"
+warned=
+refuse_each play --lenient hello.z3 hello.cert
 each='^(.*hello\.z3: (accepted|found|failed: memory)|[12] files?: [01] (accepted|found), [12] failed)$'
 cp hello.z3 "$work/hello.z3"
 refuse_each check hello.z3
