@@ -13,6 +13,7 @@ import sys
 import tempfile
 
 from calls import RET_POPPED, RTRUE, WIDE, call, call_with, deep, files, printing, routine
+from excused import LENIENT, told
 from frames import MOST, limited
 from lines import telling
 from lists import run_of
@@ -137,6 +138,22 @@ def deepest(program, count):
         made = files(deep(most - 1, place), [routine(place, words, (15, 15), *lines)])
         listed = made["certificate"] if most == 1024 else limited(made["certificate"], most)
         see(program, count, f"{most} frames of 15 locals and 64 words", made["story"], listed, b"15")
+
+
+def excused(program, count):
+    """Faults that are answered: in the newest of as many frames as there may be, in as much dynamic memory as leaves room for code, and at many
+    places. Each is a division by 0."""
+    place, divided = CODE + 12, bytes.fromhex("17050010")
+    end = b"\xe6\xbf\x10" + QUIT
+    main = b"\xe0\x0f" + word(place // 2) + word(MOST - 1) + b"\x10" + end
+    called = b"\1\0\0" + b"\xa0\1\xcb" + b"\x96\1" + b"\xe0\x2f" + word(place // 2) + b"\1\0" + RET_POPPED + bytes.fromhex("17050000") + RET_POPPED
+    for name, made, places in (
+        (f"within {MOST} frames", story(main + b"\0" + called), [place + 15]),
+        ("in 65,306 bytes", story(divided + end, room=64700), [CODE + 64700]),
+        ("at 20,000 places", story(divided * 20000 + end), [CODE + 4 * it for it in range(20000)]),
+    ):
+        wanted = Answer(0, b"0", told(*((10, it) for it in places)))
+        count.is_answer(f"a fault {name}", program.run(LENIENT, {"story": made}), wanted)
 
 
 def most_callees(program, count):
@@ -474,6 +491,8 @@ GROWTH = [
     ("zmachine new", "bytes of memory, twice", longest),
     ("zmachine save_bytes", "frames with their locals and stacks", deep_saves),
     ("zmachine save_bytes", "dynamic memory", largest_save),
+    ("zmachine state", "frames, and dynamic memory", excused),
+    ("zmachine stand", "frames, and dynamic memory", excused),
     ("zlink new", "frames that there may be", deepest),
     ("zref new", "bytes of memory", longest),
     ("zref run", "text of a step, and of a turn", long_texts),
@@ -488,6 +507,7 @@ GROWTH = [
     ("zref save_bytes", "dynamic memory", largest_save),
     ("zref restore", "frames with their locals and stacks", deep_saves),
     ("zref restore", "dynamic memory", largest_save),
+    ("zref excuse", "frames, and dynamic memory", excused),
     ("zplay start", "bytes of memory", longest),
     ("zplay start", "frames that a session may have", deepest),
     ("zplay run", "instructions that were played", longest),
@@ -507,6 +527,9 @@ GROWTH = [
     ("zfault from_slice", "letters of a name", status_lines),
     ("zplayer play_checked", "text and status lines of a turn", status_lines),
     ("zplayer play_story", "text and status lines of a turn", status_lines),
+    ("zplayer play_leniently", "places of faults", excused),
+    ("zplayer opened", "nothing: what is kept of faults takes memory with the first one", None),
+    ("zplayer new", "nothing, as that", None),
     ("zscreen render", "bytes and status lines of a turn", None),
     ("zinfo info", "what `list_story` grows by, which it calls", told_at_length),
     ("zinfo text_of_info", "numbers of a story", told_at_length),
