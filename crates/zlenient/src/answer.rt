@@ -3,7 +3,7 @@
 ghost use Rattle.std.specs.Prelude.{◌≡◌, None, Some, false, true};
 ghost use Rattle.zstory.specs.Bytes.{byte_at, word_at};
 ghost use Rattle.zobj.specs.Answers.{address_of};
-ghost use Rattle.zobj.specs.Entries.{HasEntry, HasTable};
+ghost use Rattle.zobj.specs.Entries.{HasTable};
 ghost use Rattle.zobj.specs.Properties.{property_of};
 ghost use Rattle.zstate.specs.State.{State as AState};
 ghost use Rattle.zstate.specs.Step.{is_object};

@@ -1,13 +1,12 @@
 //! A step of lenient play where a step is a fault.
 
-ghost use Rattle.std.specs.Prelude.{◌≡◌, ◌<◌, ◌≤◌, ◌^◌, ◌+◌, ℕ, Err, IfOk, IfSome, MatchOption, Ok, OnErr, OnOk, drop, length, pos, true};
+ghost use Rattle.std.specs.Prelude.{◌≡◌, ◌<◌, ◌≤◌, ◌^◌, ◌+◌, ℕ, Err, IfSome, MatchOption, Ok, OnErr, OnOk, drop, length, pos, true};
 ghost use Rattle.zstory.specs.LoadedStory.{static_base};
 ghost use Rattle.zcode.specs.Instruction.{Instruction};
 ghost use Rattle.zcode.specs.Operation.{target};
 ghost use Rattle.zcode.specs.Reading.{instruction_at};
 ghost use Rattle.zstate.specs.State.{IsState, Setting, popped};
 ghost use Rattle.zcode.specs.declared.error.DecodeError.TheVariants.{NotInProfile as LeftOut};
-ghost use Rattle.zcode.specs.declared.opcode.Excluded.{Excluded as AnExcluded};
 ghost use Rattle.zstate.specs.Step.{fetch};
 ghost use Rattle.zlenient.specs.Answer.{EndsBy, IsExcused, IsOpenWay, done_instead, effect_with, place_after};
 ghost use Rattle.zlenient.specs.Front.{front_at};

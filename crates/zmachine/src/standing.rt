@@ -1,12 +1,11 @@
 //! A board that is put into another state of its story.
 
-ghost use Rattle.std.specs.Prelude.{◌≡◌, ◌+◌, ◌<◌, ◌≤◌, IfOk, IsFalse, IsTrue, OnErr, OnOk, Ok, length};
+ghost use Rattle.std.specs.Prelude.{◌≡◌, ◌+◌, ◌<◌, ◌≤◌, IsFalse, IsTrue, OnErr, OnOk, Ok, length};
 ghost use Rattle.zquetzal.specs.Reading.{reading};
 ghost use Rattle.zquetzal.specs.Saved.{IsSaved, Saved as ASaved};
 ghost use Rattle.zquetzal.specs.declared.limits.TheConstants.{MOST_FRAMES};
 ghost use Rattle.zstate.specs.Saves.{resumed};
 ghost use Rattle.zstate.specs.State.{IsState};
-ghost use Rattle.zengine.specs.Frames.{AreFrames};
 ghost use Rattle.zengine.specs.Play.{state_in};
 ghost use Rattle.zengine.specs.View.{body_of};
 ghost use Rattle.zmachine.specs.Parts.{IsInside};

@@ -1,8 +1,9 @@
 //! What is customary in the place of a fault, done by the checked machine.
 
-ghost use Rattle.std.specs.Prelude.{◌≡◌, Err, IfOk, OnErr};
+ghost use Rattle.std.specs.Prelude.{◌≡◌, Err, IfOk, IsErr, OnErr, true};
 ghost use Rattle.zstate.specs.Step.{step};
 ghost use Rattle.zstate.specs.declared.halt.Halt.TheVariants.{Fault as AFault};
+ghost use Rattle.zlenient.specs.Customary.{is_excusable};
 ghost use Rattle.zref.specs.Excusing.{Excuses};
 ghost use Rattle.zref.specs.Machine.{setting, SamePlay};
 
@@ -37,6 +38,7 @@ impl<'a> CheckedMachine<'a> {
         ensures play { SamePlay self.old self.new }
         ensures excuses { IfOk result (λ excuse. Excuses (setting self.old) excuse self.old.state self.new.state front.old front.new left.old left.new) }
         ensures same { OnErr result ((self.new.state ≡ self.old.state) × (front.new ≡ front.old) × (left.new ≡ left.old)) }
+        ensures wanted { IsErr result → is_excusable fault ≡ true }
     {
         if !is_excusable(fault) || !self.is_inside() {
             return Ok(Excuse::Halted(Halt::Fault(fault)));
