@@ -1,0 +1,9 @@
+pub mod Determined
+pub mod Ending
+pub mod Feeding
+pub mod Flushing
+pub mod Sinking
+pub mod Taking
+mod WorkedRecords
+mod WorkedTurns
+mod WorkedWrapping
