@@ -1,5 +1,9 @@
+pub mod Copies
+pub mod Lines
 pub mod Owed
+pub mod ReadAhead
 pub mod Records
+pub mod Screens
 pub mod Sources
 pub mod Turns
 pub mod WrappedSinks

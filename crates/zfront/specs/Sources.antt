@@ -1,5 +1,8 @@
 -- What a contract sees of a source that is made of others.
+use Rattle.std.specs.Borrow.{GName}
+use Rattle.std.specs.Option.{ghost_name_of, option_copied_mut}
 use Rattle.std.specs.Prelude.{ℕ, ◌+◌, ◌-◌, ◌^◌, min, List, ◌++◌, Bool, true, false, Option, Some, None}
+use mathlib.Core.Option as maybe
 use Rattle.zfront.specs.declared.recorded.Recorded.{Recorded}
 use Rattle.zfront.specs.declared.followed.Followed.{Followed}
 
@@ -7,13 +10,17 @@ use Rattle.zfront.specs.declared.followed.Followed.{Followed}
 abbrev pub source_of : {S W : Type 0} → Recorded S W → S
 source_of recorded = recorded.source.now
 
--- where it is recorded
-abbrev pub copy_of : {S W : Type 0} → Recorded S W → W
-copy_of recorded = recorded.copy.now
+-- where it is recorded, if anywhere
+abbrev pub copy_of : {S W : Type 0} → Recorded S W → Option W
+copy_of recorded = option_copied_mut recorded.record.copy
+
+-- which reference to it that is
+abbrev pub copy_name : {S W : Type 0} → Recorded S W → maybe.Option GName
+copy_name recorded = ghost_name_of recorded.record.copy
 
 -- whether all that was read is there
 abbrev pub is_whole : {S W : Type 0} → Recorded S W → Bool
-is_whole recorded = recorded.whole
+is_whole recorded = recorded.record.whole
 
 -- the source that is read first, and the one behind it
 abbrev pub first_of : {A B : Type 0} → Followed A B → A

@@ -1,22 +1,30 @@
-//! The devices of a play's front, each over another one: text that is wrapped, and bytes that are recorded as they come.
+//! The devices of a play's front, each over other ones: text that is wrapped, bytes that are recorded or copied as they pass, lines one at a time.
 #![tactic(auto)]
 
+mod ahead;
+mod copied;
 mod followed;
 mod giving;
 mod laws;
+mod lined;
 mod pending;
+mod record;
 mod recorded;
+mod screen;
 mod turns;
 mod wrapped;
 mod wrapper;
 
+pub use copied::Copied;
 pub use followed::Followed;
 pub use laws::{
     failed_calls_lose_nothing, failed_flushes_lose_nothing, failed_writes_lose_nothing,
     flushed_text_is_wrapped, no_width_wraps_nothing, pieces_join, taken_pieces_join,
     text_is_wrapped, turns_are_wrapped, wrapping_is_determined,
 };
+pub use lined::Lined;
 pub use recorded::Recorded;
+pub use screen::Screen;
 pub use turns::Turns;
 pub use wrapped::Wrapped;
 pub use wrapper::Wrapper;

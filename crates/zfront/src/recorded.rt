@@ -1,57 +1,41 @@
 //! A source that is recorded.
 
-ghost use Rattle.std.specs.Prelude.{◌≡◌, ◌≤◌, true, IfOk, Ok, length};
+ghost use Rattle.std.specs.Option.{ghost_name_of, option_copied_mut};
+ghost use Rattle.std.specs.Prelude.{◌≡◌, ◌≤◌, true, IfOk, IsNone, Ok, length, option_and_then};
 ghost use Rattle.std.specs.Io.KnownBytes.{ReadConsumes};
 ghost use Rattle.zfault.specs.Devices.{ChangesFront, CountsFailure};
-ghost use Rattle.zfront.specs.Records.{Records, RecordsBytes};
-ghost use Rattle.zfront.specs.Sources.{is_whole, copy_of, source_of};
+ghost use Rattle.zfront.specs.Records.{Records};
+ghost use Rattle.zfront.specs.Sources.{copy_name, copy_of, is_whole, source_of};
 
-use zfault::{Failed, Sink, Source, write_whole};
+use crate::record::Record;
+use zfault::{Failed, Sink, Source};
 
 /// A source of which each byte that is read goes to a sink too, in the same call. Where that fails, the record ends there: what is read is given
-/// all the same, and the sink isn't asked again.
+/// all the same, and the sink isn't asked again. With no sink nothing is recorded.
 #[derive(Drop)]
 pub struct Recorded<'a, S, W> {
     source: &'a mut S,
-    copy: &'a mut W,
-    whole: bool,
+    record: Record<'a, W>,
 }
 
 impl<'a, S, W> Recorded<'a, S, W> {
     /// The source, with a record that has all that was read so far: nothing.
-    pub fn new(source: &'a mut S, copy: &'a mut W) -> Recorded<'a, S, W>
+    pub fn new(source: &'a mut S, copy: Option<&'a mut W>) -> Recorded<'a, S, W>
         ensures source_is { result.source.ghost_name ≡ source.entry.ghost_name }
-        ensures copy_is { result.copy.ghost_name ≡ copy.entry.ghost_name }
+        ensures copy_is { copy_name result ≡ ghost_name_of copy.entry }
         ensures source { source_of result ≡ source.old }
-        ensures copied { copy_of result ≡ copy.old }
+        ensures copied { copy_of result ≡ option_copied_mut copy.entry }
         ensures whole { is_whole result ≡ true }
     {
-        Recorded {
-            source,
-            copy,
-            whole: true,
-        }
+        let record = Record::new(copy);
+        Recorded { source, record }
     }
 
-    /// Whether the record has all that was read.
+    /// Whether the record has all that was read. So it has where nothing is recorded.
     pub fn is_whole(&self) -> bool
         ensures { result ≡ is_whole self.now }
     {
-        self.whole
-    }
-}
-
-impl<S, W: Sink> Recorded<'_, S, W> {
-    /// Records bytes that were read.
-    fn keep(&mut self, bytes: &[u8])
-        ensures source_is { self.new.source.ghost_name ≡ self.old.source.ghost_name }
-        ensures copy_is { self.new.copy.ghost_name ≡ self.old.copy.ghost_name }
-        ensures source { source_of self.new ≡ source_of self.old }
-        ensures copied { RecordsBytes (W.contents (copy_of self.old)) (W.contents (copy_of self.new)) (is_whole self.old) (is_whole self.new) bytes.now }
-    {
-        if self.whole {
-            self.whole = write_whole(&mut *self.copy, bytes).is_ok();
-        }
+        self.record.is_whole()
     }
 }
 
@@ -68,14 +52,15 @@ impl<S: Source, W: Sink> Source for Recorded<'_, S, W> {
         ensures bytes { ReadConsumes (S.remaining (source_of self.old)) (S.remaining (source_of self.new)) result buffer.new }
         ensures counts { CountsFailure (S.failures (source_of self.old)) (S.failures (source_of self.new)) result }
         ensures source_is { self.new.source.ghost_name ≡ self.old.source.ghost_name }
-        ensures copy_is { self.new.copy.ghost_name ≡ self.old.copy.ghost_name }
-        ensures copied { Records (W.contents (copy_of self.old)) (W.contents (copy_of self.new)) (is_whole self.old) (is_whole self.new) result buffer.new }
+        ensures copy_is { copy_name self.new ≡ copy_name self.old }
+        ensures copied { Records (option_and_then W.contents (copy_of self.old)) (option_and_then W.contents (copy_of self.new)) (is_whole self.old) (is_whole self.new) result buffer.new }
+        ensures nowhere { IsNone (copy_of self.old) → is_whole self.new ≡ is_whole self.old }
     {
         if buffer.is_empty() {
             return Ok(0);
         }
         let count = self.source.read(buffer)?;
-        self.keep(&buffer[..count]);
+        self.record.keep(&buffer[..count]);
         Ok(count)
     }
 }
