@@ -17,9 +17,10 @@ use Rattle.clap.specs.Words.{ReadsOne, Row, Text, first_of, first_value, matched
 use Rattle.clap.specs.declared.parser.matches.ArgMatches.{ArgMatches}
 use Rattle.clap.specs.declared.parser.matches.ArgMatches.TheViews.{out-ArgMatches, out-SubCommand}
 use Rattle.clap.specs.Simple.{subcommand_rows}
-use Rattle.zcommand.specs.CommandLine.{IsLow, IsReadFrom, address_of, certificate_of, code_of, files_of, frames_of, is_asked, limit_in, low_limit, number_in, number_of, out_of, output_of, packed_of, pair_of, save_of, story_of, target_of}
+use Rattle.zcommand.specs.CommandLine.{Front, IsLow, IsReadFrom, address_of, certificate_of, code_of, files_of, fitting, fitting_in, frames_of, front_asked, front_named, front_of, is_asked, is_limit, is_no_save_asked, is_plain_asked, is_width, no_front, number_in, number_of, out_of, output_of, packed_of, pair_of, record_of, replay_of, save_of, story_of, target_of, transcript_of, width_of}
 use Rattle.zcommand.specs.declared.words.Command.{Command}
 use Rattle.zcommand.specs.declared.words.Command.TheVariants as commands
+use Rattle.zcommand.specs.declared.words.Front.{Front as NamedFront}
 
 digits_pass : (ds : List ℕ) → AllDigits 10 ds → list_all (λ d. nat_lt (digit_value d) 10) ds ≡ true
 digits_pass [] h = refl
@@ -153,62 +154,83 @@ number_given {E} bits name G found o r none given parses is =
     go None e o none given = ap (λ (y : Option ℕ). unwrap_or y 0) (none e)
     go (Some t) e o none given = read t o (given t e)
 
-abbrev is_limit : List ℕ → Bool
-is_limit ds = nat_lt 0 (length ds) && list_all (λ d. nat_lt (digit_value d) 10) ds && nat_le (digits_value 10 ds) 4096
+-- numbers that fit are below 2 to the 16th
+module _ (fits : ℕ → Bool) (small : (n : ℕ) → fits n ≡ true → n < 65536) where
+  abbrev are_fitting : List ℕ → Bool
+  are_fitting ds = nat_lt 0 (length ds) && list_all (λ d. nat_lt (digit_value d) 10) ds && fits (digits_value 10 ds)
 
--- what parsing a text makes of it is the limit in it, unless it is above the greatest
-limit_read : {E : Type 0} (text : Text) (r : Result ℕ E) → ParsesUnsigned 16 10 text r → (n : ℕ) → r ≡ Ok n → low_limit n ≡ limit_in text
-limit_read text (Ok m) h n e =
-    let ds = without_leading_plus text in
-    let value : low_limit (digits_value 10 ds) ≡ limit_in text = rw (lt-ltb 0 (length ds) h.0.0.0, digits_pass ds h.0.0.1) refl in
-    let said : m ≡ digits_value 10 ds = h.1 in
-    let same : n ≡ digits_value 10 ds = cc in
-    ap low_limit same ∙ value
-limit_read text (Err x) h n e = cc
+  -- what parsing a text makes of it is the number in it, where it fits
+  fitting_read : {E : Type 0} (text : Text) (r : Result ℕ E) → ParsesUnsigned 16 10 text r → (n : ℕ) → r ≡ Ok n → fitting fits n ≡ fitting_in fits text
+  fitting_read text (Ok m) h n e =
+      let ds = without_leading_plus text in
+      let value : fitting fits (digits_value 10 ds) ≡ fitting_in fits text = rw (lt-ltb 0 (length ds) h.0.0.0, digits_pass ds h.0.0.1) refl in
+      let said : m ≡ digits_value 10 ds = h.1 in
+      let same : n ≡ digits_value 10 ds = cc in
+      ap (fitting fits) same ∙ value
+  fitting_read text (Err x) h n e = cc
 
-no_limit : {E : Type 0} (text : Text) (e : E) → ParsesUnsigned 16 10 text (Err e) → None ≡ limit_in text
-no_limit text e h = go (is_limit (without_leading_plus text)) refl
-  where
-    go : (b : Bool) → is_limit (without_leading_plus text) ≡ b → None ≡ limit_in text
-    go false t = rw t refl
-    go true t =
-        let outer = both _ _ t in
-        let inner = both _ _ outer.0 in
-        let most : digits_value 10 (without_leading_plus text) ≤ 4096 = leb-true _ _ outer.1 in
-        let few : digits_value 10 (without_leading_plus text) < 65536 = omega arith in
-        absurd (h ((ltb-true _ _ inner.0, digits_from (without_leading_plus text) inner.1), few))
+  none_fitting : {E : Type 0} (text : Text) (e : E) → ParsesUnsigned 16 10 text (Err e) → None ≡ fitting_in fits text
+  none_fitting text e h = go (are_fitting (without_leading_plus text)) refl
+    where
+      go : (b : Bool) → are_fitting (without_leading_plus text) ≡ b → None ≡ fitting_in fits text
+      go false t = rw t refl
+      go true t =
+          let ds = without_leading_plus text in
+          let outer = both (nat_lt 0 (length ds) && list_all (λ d. nat_lt (digit_value d) 10) ds) (fits (digits_value 10 ds)) t in
+          let inner = both (nat_lt 0 (length ds)) (list_all (λ d. nat_lt (digit_value d) 10) ds) outer.0 in
+          absurd (h ((ltb-true _ _ inner.0, digits_from ds inner.1), small (digits_value 10 ds) outer.1))
 
--- what the getter of limits gives, unless it is above the greatest
-pub limit_given : {E : Type 0} (G : List ℕ → Result ℕ E → Type 0) (found : Found) (o r : Option ℕ)
-    → (one_text found (codes "frames") ≡ None → o ≡ None) → ((t : Text) → one_text found (codes "frames") ≡ Some t → ReadsOne G t o)
-    → ((t : Text) (x : Result ℕ E) → G t x → ParsesUnsigned 16 10 t x)
-    → r ≡ option_and_then low_limit o → r ≡ frames_of (rows_of found)
-limit_given {E} G found o r none given parses is =
-    is ∙ go (one_text found (codes "frames")) refl o none given ∙ ap (λ (x : Option Text). option_map_or limit_in x None) (one_text-rows found (codes "frames"))
-  where
-    read : (t : Text) (o : Option ℕ) → ReadsOne G t o → option_and_then low_limit o ≡ limit_in t
-    read t (Some n) h = limit_read {E = E} t (Ok n) (parses t (Ok n) h) n refl
-    read t None h = no_limit t h.0 (parses t (Err h.0) h.1)
+  -- what the getter of numbers gives, where it fits
+  pub fitting_given : {E : Type 0} (name : Text) (G : List ℕ → Result ℕ E → Type 0) (found : Found) (o r : Option ℕ)
+      → (one_text found name ≡ None → o ≡ None) → ((t : Text) → one_text found name ≡ Some t → ReadsOne G t o)
+      → ((t : Text) (x : Result ℕ E) → G t x → ParsesUnsigned 16 10 t x)
+      → r ≡ option_and_then (fitting fits) o → r ≡ option_map_or (fitting_in fits) (one_of name (rows_of found)) None
+  fitting_given {E} name G found o r none given parses is =
+      is ∙ go (one_text found name) refl o none given ∙ ap (λ (x : Option Text). option_map_or (fitting_in fits) x None) (one_text-rows found name)
+    where
+      read : (t : Text) (o : Option ℕ) → ReadsOne G t o → option_and_then (fitting fits) o ≡ fitting_in fits t
+      read t (Some n) h = fitting_read {E = E} t (Ok n) (parses t (Ok n) h) n refl
+      read t None h = none_fitting t h.0 (parses t (Err h.0) h.1)
 
-    go : (x : Option Text) → one_text found (codes "frames") ≡ x → (o : Option ℕ)
-        → (one_text found (codes "frames") ≡ None → o ≡ None) → ((t : Text) → one_text found (codes "frames") ≡ Some t → ReadsOne G t o)
-        → option_and_then low_limit o ≡ option_map_or limit_in x None
-    go None e o none given = ap (λ (y : Option ℕ). option_and_then low_limit y) (none e)
-    go (Some t) e o none given = read t o (given t e)
+      go : (x : Option Text) → one_text found name ≡ x → (o : Option ℕ)
+          → (one_text found name ≡ None → o ≡ None) → ((t : Text) → one_text found name ≡ Some t → ReadsOne G t o)
+          → option_and_then (fitting fits) o ≡ option_map_or (fitting_in fits) x None
+      go None e o none given = ap (λ (y : Option ℕ). option_and_then (fitting fits) y) (none e)
+      go (Some t) e o none given = read t o (given t e)
 
-limit_is_low : (text : Text) → IfSome (limit_in text) (λ n. n ≤ 4096)
-limit_is_low text = go (is_limit (without_leading_plus text)) refl
-  where
-    go : (b : Bool) → is_limit (without_leading_plus text) ≡ b → IfSome (if b then Some (digits_value 10 (without_leading_plus text)) else None) (λ n. n ≤ 4096)
-    go true t = leb-true _ _ (both _ _ t).1
-    go false t = tt
+  -- a number that is among the matches fits
+  fitting_among : (P : ℕ → Type 0) → ((n : ℕ) → fits n ≡ true → P n) → (x : Option Text) → IfSome (option_map_or (fitting_in fits) x None) P
+  fitting_among P holds None = tt
+  fitting_among P holds (Some text) = go (are_fitting (without_leading_plus text)) refl
+    where
+      go : (b : Bool) → are_fitting (without_leading_plus text) ≡ b → IfSome (if b then Some (digits_value 10 (without_leading_plus text)) else None) P
+      go true t = holds _ (both _ _ t).1
+      go false t = tt
+
+-- a limit is at most 4096, and a width from 1 to 1000
+limit_fits : (n : ℕ) → is_limit n ≡ true → n ≤ 4096
+limit_fits n e = leb-true n 4096 e
+
+width_fits : (n : ℕ) → is_width n ≡ true → (0 < n) × (n ≤ 1000)
+width_fits n e =
+    let parts = both (nat_lt 0 n) (nat_le n 1000) e in
+    (ltb-true 0 n parts.0, leb-true n 1000 parts.1)
+
+pub small_limit : (n : ℕ) → is_limit n ≡ true → n < 65536
+small_limit n e =
+    let most : n ≤ 4096 = limit_fits n e in
+    omega (arith, most)
+
+pub small_width : (n : ℕ) → is_width n ≡ true → n < 65536
+small_width n e =
+    let most : n ≤ 1000 = (width_fits n e).1 in
+    omega (arith, most)
 
 frames_are_low : (rows : List Row) → IfSome (frames_of rows) (λ n. n ≤ 4096)
-frames_are_low rows = go (one_of (codes "frames") rows)
-  where
-    go : (x : Option Text) → IfSome (option_map_or limit_in x None) (λ n. n ≤ 4096)
-    go None = tt
-    go (Some t) = limit_is_low t
+frames_are_low rows = fitting_among is_limit small_limit (λ n. n ≤ 4096) limit_fits (one_of (codes "frames") rows)
+
+width_among : (rows : List Row) → IfSome (width_of rows) (λ n. (0 < n) × (n ≤ 1000))
+width_among rows = fitting_among is_width small_width (λ n. (0 < n) × (n ≤ 1000)) width_fits (one_of (codes "width") rows)
 
 -- what is read of matches asks for no limit above the greatest
 low_among : (matches : Text × List Row) (command : Command) → IsReadFrom matches command → IsLow command
@@ -265,3 +287,49 @@ rows_named m name rows named given = pair (subcommand_rows_of m) (name_first m �
     pair : (o : Option (Text × List Row)) → option_map (λ p. p.0) o ≡ Some name → option_map (λ p. p.1) o ≡ Some rows → o ≡ Some (name, rows)
     pair None e f = cc
     pair (Some (n, rs)) e f = cc
+
+-- what is read of how a play shows its text, and of its files of lines
+pub front_read : (found : Found) (front : NamedFront) → front.width ≡ width_of (rows_of found) → front.plain ≡ is_plain_asked (rows_of found)
+    → option_map (λ s. s.now) front.transcript ≡ first_value found (codes "transcript")
+    → option_map (λ s. s.now) front.record ≡ first_value found (codes "record") → option_map (λ s. s.now) front.replay ≡ first_value found (codes "replay")
+    → front.no_save ≡ is_no_save_asked (rows_of found) → front_named front ≡ front_of (rows_of found)
+front_read found front width plain told kept before unkept =
+    six _ _ _ _ _ _ _ _ _ _ _ _ width plain (told ∙ first_value-rows found (codes "transcript")) (kept ∙ first_value-rows found (codes "record"))
+    (before ∙ first_value-rows found (codes "replay")) unkept
+  where
+    front_with : Option ℕ → Bool → Option Text → Option Text → Option Text → Bool → Front
+    front_with width plain told kept before unkept =
+        record { width = width; plain = plain; transcript = told; typed_to = kept; typed_before = before; no_save = unkept }
+
+    six : (w v : Option ℕ) (p q : Bool) (t u k l b c : Option Text) (n m : Bool) → w ≡ v → p ≡ q → t ≡ u → k ≡ l → b ≡ c → n ≡ m
+        → front_with w p t k b n ≡ front_with v q u l c m
+    six w v p q t u k l b c n m width plain told kept before unkept = cc
+
+-- of the matches of `play` it is what they say
+pub front_of_play : (matches : Option (Text × List Row)) (rows : List Row) → matches ≡ Some (codes "play", rows) → front_asked matches ≡ front_of rows
+front_of_play matches rows is = ap front_asked is
+
+-- and of those of another command it asks for nothing
+pub front_of_another : (m : ArgMatches) → (subcommand_name_of m ≡ Some (codes "play") → ⊥) → front_asked (subcommand_rows_of m) ≡ no_front
+front_of_another m another = go (subcommand_rows_of m) (name_first m)
+  where
+    unless : (name : Text) (rows : List Row) (b : Bool) → bytes_eq name (codes "play") ≡ b → Some name ≡ subcommand_name_of m
+        → (if b then front_of rows else no_front) ≡ no_front
+    unless name rows true e is = absurd (another (sym is ∙ ap (λ (n : Text). Some n) ((bytes_eq-Decides name (codes "play")).0 e)))
+    unless name rows false e is = refl
+
+    go : (o : Option (Text × List Row)) → option_map (λ p. p.0) o ≡ subcommand_name_of m → front_asked o ≡ no_front
+    go None is = refl
+    go (Some (name, rows)) is = unless name rows (bytes_eq name (codes "play")) refl is
+
+-- a width that is asked for fits
+pub width_is_low : (matches : Option (Text × List Row)) (front : NamedFront) → front_named front ≡ front_asked matches → IfSome front.width (λ n. (0 < n) × (n ≤ 1000))
+width_is_low matches front is = subst (λ (o : Option ℕ). IfSome o (λ n. (0 < n) × (n ≤ 1000))) (sym (ap (λ (f : Front). f.width) is)) (go matches)
+  where
+    either : (rows : List Row) (b : Bool) → IfSome (if b then front_of rows else no_front).width (λ n. (0 < n) × (n ≤ 1000))
+    either rows true = width_among rows
+    either rows false = tt
+
+    go : (o : Option (Text × List Row)) → IfSome (front_asked o).width (λ n. (0 < n) × (n ≤ 1000))
+    go None = tt
+    go (Some (name, rows)) = either rows (bytes_eq name (codes "play"))

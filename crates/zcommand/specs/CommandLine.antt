@@ -12,6 +12,7 @@ use Rattle.clap.specs.declared.builder.value_parser.ValueParser.TheVariants as p
 use Rattle.zbatch.specs.Naming.{is_story_name}
 use Rattle.zcommand.specs.declared.words.Command.{Command}
 use Rattle.zcommand.specs.declared.words.Command.TheVariants as commands
+use Rattle.zcommand.specs.declared.words.Front.{Front as NamedFront}
 
 -- a word without a name before it, which has to be there or may be
 abbrev pub word_rule : Text → Bool → Rule
@@ -79,6 +80,30 @@ file_rule name = record (new_rule name) { long = Some name; value_names = 1; par
 abbrev pub save_rule : Rule
 save_rule = file_rule (codes "save")
 
+-- `--width N`, where N is from 1 to 1000
+abbrev pub width_rule : Rule
+width_rule = record (new_rule (codes "width")) { long = Some (codes "width"); value_names = 1; parser = Some (parsers.Signed (pos 1) (pos 1000)) }
+
+-- `--plain`, a flag
+abbrev pub plain_rule : Rule
+plain_rule = record (new_rule (codes "plain")) { long = Some (codes "plain"); action = Some SetTrue }
+
+-- `--transcript FILE`
+abbrev pub transcript_rule : Rule
+transcript_rule = file_rule (codes "transcript")
+
+-- `--record FILE`
+abbrev pub record_rule : Rule
+record_rule = file_rule (codes "record")
+
+-- `--replay FILE`
+abbrev pub replay_rule : Rule
+replay_rule = file_rule (codes "replay")
+
+-- `--no-save`, a flag
+abbrev pub no_save_rule : Rule
+no_save_rule = record (new_rule (codes "no-save")) { long = Some (codes "no-save"); action = Some SetTrue }
+
 -- `CERT`, which has to be there or may be
 abbrev pub certificate_rule : Bool → Rule
 certificate_rule required = word_rule (codes "CERT") required
@@ -144,8 +169,16 @@ abbrev pub strict_app : App
 strict_app = with_rule (with_rule (with_rule saveless_app save_rule) tell_rule) force_rule
 
 -- the same with `--lenient`
+abbrev pub frontless_app : App
+frontless_app = with_rule strict_app lenient_rule
+
+-- the same with `--width N --plain --transcript FILE`
+abbrev pub showing_app : App
+showing_app = with_rule (with_rule (with_rule frontless_app width_rule) plain_rule) transcript_rule
+
+-- the same with `--record FILE --replay FILE --no-save`
 abbrev pub play_app : App
-play_app = with_rule strict_app lenient_rule
+play_app = with_rule (with_rule (with_rule showing_app record_rule) replay_rule) no_save_rule
 
 -- `info STORY --json`
 abbrev pub info_app : App
@@ -206,20 +239,36 @@ seed_of rows = number_of 64 (codes "seed") rows
 abbrev pub budget_of : List Row → ℕ
 budget_of rows = number_of 32 (codes "budget") rows
 
+-- a limit of frames isn't above the greatest
+abbrev pub is_limit : ℕ → Bool
+is_limit n = nat_le n 4096
+
+-- a width is of one column at least, and of a thousand at most
+abbrev pub is_width : ℕ → Bool
+is_width n = nat_lt 0 n && nat_le n 1000
+
+-- a number, if it fits
+abbrev pub fitting : (ℕ → Bool) → ℕ → Option ℕ
+fitting fits n = if fits n then Some n else None
+
 -- a limit that isn't above the greatest
 abbrev pub low_limit : ℕ → Option ℕ
-low_limit n = if nat_le n 4096 then Some n else None
+low_limit = fitting is_limit
 
--- the limit that a text says so, if it says one and that isn't above the greatest
-abbrev pub limit_in : Text → Option ℕ
-limit_in text =
+-- the number that a text says so, if it says one and that fits
+abbrev pub fitting_in : (ℕ → Bool) → Text → Option ℕ
+fitting_in fits text =
     let digits = without_leading_plus text in
-    if nat_lt 0 (length digits) && list_all (λ d. nat_lt (digit_value d) 10) digits && nat_le (digits_value 10 digits) 4096
+    if nat_lt 0 (length digits) && list_all (λ d. nat_lt (digit_value d) 10) digits && fits (digits_value 10 digits)
     then Some (digits_value 10 digits) else None
 
 -- the limit of frames among the matches of `find`, if there is one
 abbrev pub frames_of : List Row → Option ℕ
-frames_of rows = option_map_or limit_in (one_of (codes "frames") rows) None
+frames_of rows = option_map_or (fitting_in is_limit) (one_of (codes "frames") rows) None
+
+-- the width of the text among the matches of `play`, if there is one
+abbrev pub width_of : List Row → Option ℕ
+width_of rows = option_map_or (fitting_in is_width) (one_of (codes "width") rows) None
 
 -- whether a flag is given among the matches: clap has `true` there where it is, and else `false`
 abbrev pub is_asked : Text → List Row → Bool
@@ -248,6 +297,14 @@ is_force_asked rows = is_asked (codes "force") rows
 -- and whether play is to go on after faults as interpreters do
 abbrev pub is_lenient_asked : List Row → Bool
 is_lenient_asked rows = is_asked (codes "lenient") rows
+
+-- and whether nothing is to be wrapped
+abbrev pub is_plain_asked : List Row → Bool
+is_plain_asked rows = is_asked (codes "plain") rows
+
+-- and whether no saves are to be kept
+abbrev pub is_no_save_asked : List Row → Bool
+is_no_save_asked rows = is_asked (codes "no-save") rows
 
 -- and whether an object of JSON is to be answered
 abbrev pub is_json_asked : List Row → Bool
@@ -283,6 +340,66 @@ address_of rows = first_of (codes "ADDRESS") rows
 -- the name of the file for saves among the matches of `play`, if there is one
 abbrev pub save_of : List Row → Option Text
 save_of rows = first_of (codes "save") rows
+
+-- the name of the file that the text and the lines typed are kept in, if there is one
+abbrev pub transcript_of : List Row → Option Text
+transcript_of rows = first_of (codes "transcript") rows
+
+-- of the one that the lines typed alone are kept in
+abbrev pub record_of : List Row → Option Text
+record_of rows = first_of (codes "record") rows
+
+-- and of the one whose lines are read before those
+abbrev pub replay_of : List Row → Option Text
+replay_of rows = first_of (codes "replay") rows
+
+-- how a play shows its text, and which files lines and text go to and come from
+pub record Front : Type 0 where
+  -- text is wrapped at so many columns
+  pub width : Option ℕ
+  -- nothing is wrapped, on a terminal too
+  pub plain : Bool
+  -- the file that the text and the lines typed are kept in
+  pub transcript : Option Text
+  -- the file that the lines typed are kept in
+  pub typed_to : Option Text
+  -- a file whose lines are read before those typed
+  pub typed_before : Option Text
+  -- no saves are kept, on a terminal too
+  pub no_save : Bool
+
+-- what the matches of `play` say of it
+abbrev pub front_of : List Row → Front
+front_of rows =
+    record {
+      width = width_of rows;
+      plain = is_plain_asked rows;
+      transcript = transcript_of rows;
+      typed_to = record_of rows;
+      typed_before = replay_of rows;
+      no_save = is_no_save_asked rows;
+    }
+
+-- a front that asks for nothing
+abbrev pub no_front : Front
+no_front = record { width = None; plain = false; transcript = None; typed_to = None; typed_before = None; no_save = false }
+
+-- what the matches of a command say of it: those of another than `play` ask for nothing
+abbrev pub front_asked : Option (Text × List Row) → Front
+front_asked (Some matches) = if bytes_eq matches.0 (codes "play") then front_of matches.1 else no_front
+front_asked None = no_front
+
+-- what a front says, by the names of files
+abbrev pub front_named : NamedFront → Front
+front_named front =
+    record {
+      width = front.width;
+      plain = front.plain;
+      transcript = option_map (λ f. f.now) front.transcript;
+      typed_to = option_map (λ f. f.now) front.record;
+      typed_before = option_map (λ f. f.now) front.replay;
+      no_save = front.no_save;
+    }
 
 -- the code among the matches of `explain`, if there is one
 abbrev pub code_of : List Row → Option Text

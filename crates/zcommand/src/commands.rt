@@ -3,9 +3,9 @@
 ghost use Rattle.std.specs.Prelude.{◌≡◌, IfOk, false};
 ghost use Rattle.clap.specs.Words.{app_of, rule_of};
 ghost use Rattle.clap.specs.declared.builder.command.Command.TheViews.{out-Command as fields_of};
-ghost use Rattle.zcommand.specs.CommandLine.{frames_rule, framing_app, bare_app, budget_rule, certificate_rule, address_rule, certifying_app, check_app, code_rule, explain_app, file_rule, files_app, files_rule, find_app, force_rule, info_app, json_rule, lenient_rule, list_app, many_app, naming_app, out_rule, output_rule, packed_rule, places_rule, play_app, playing_app, save_rule, saveless_app, seed_rule, show_app, status_rule, story_rule, strict_app, strict_rule, tell_rule, unpack_app, word_rule, zpc_app};
+ghost use Rattle.zcommand.specs.CommandLine.{frames_rule, framing_app, frontless_app, bare_app, budget_rule, certificate_rule, address_rule, certifying_app, check_app, code_rule, explain_app, file_rule, files_app, files_rule, find_app, force_rule, info_app, json_rule, lenient_rule, list_app, many_app, naming_app, no_save_rule, out_rule, output_rule, packed_rule, places_rule, plain_rule, play_app, playing_app, record_rule, replay_rule, save_rule, saveless_app, seed_rule, show_app, showing_app, status_rule, story_rule, strict_app, strict_rule, tell_rule, transcript_rule, unpack_app, width_rule, word_rule, zpc_app};
 
-use crate::words::MOST_FRAMES;
+use crate::words::{MOST_FRAMES, MOST_WIDTH};
 use clap::builder::ValueParser;
 use clap::{Arg, ArgAction, value_parser};
 use std::alloc::{AllocError, Global};
@@ -182,6 +182,24 @@ fn show<'a>(alloc: Global) -> Result<clap::Command<'a>, AllocError>
 
 fn play<'a>(alloc: Global) -> Result<clap::Command<'a>, AllocError>
     ensures app { IfOk result (λ play. app_of play ≡ play_app) }
+    ensures local { IfOk result (λ play. (fields_of play).has_globals ≡ false) }
+{
+    let play = showing(alloc)?.arg(recorded(alloc))?;
+    play.arg(replayed(alloc))?.arg(no_save(alloc))
+}
+
+/// `play` without what is said of the lines typed, and of keeping no saves.
+fn showing<'a>(alloc: Global) -> Result<clap::Command<'a>, AllocError>
+    ensures app { IfOk result (λ play. app_of play ≡ showing_app) }
+    ensures local { IfOk result (λ play. (fields_of play).has_globals ≡ false) }
+{
+    let play = frontless(alloc)?.arg(width(alloc))?;
+    play.arg(plain(alloc))?.arg(transcript(alloc))
+}
+
+/// `play` without what is said of how text is shown too.
+fn frontless<'a>(alloc: Global) -> Result<clap::Command<'a>, AllocError>
+    ensures app { IfOk result (λ play. app_of play ≡ frontless_app) }
     ensures local { IfOk result (λ play. (fields_of play).has_globals ≡ false) }
 {
     strict_play(alloc)?.arg(lenient(alloc))
@@ -442,6 +460,61 @@ fn save<'a>(alloc: Global) -> Arg<'a>
     ensures local { result.global ≡ false }
 {
     kept_in(alloc, "save", "The file that saves are kept in", "FILE")
+}
+
+fn width<'a>(alloc: Global) -> Arg<'a>
+    ensures rule { rule_of result ≡ width_rule }
+    ensures local { result.global ≡ false }
+{
+    Arg::new(alloc, "width")
+        .long("width")
+        .help("Wraps text at so many columns, from 1 to 1000")
+        .value_name("N")
+        .value_parser(ValueParser::signed(1, i64::from(MOST_WIDTH)))
+}
+
+fn plain<'a>(alloc: Global) -> Arg<'a>
+    ensures rule { rule_of result ≡ plain_rule }
+    ensures local { result.global ≡ false }
+{
+    Arg::new(alloc, "plain")
+        .long("plain")
+        .help("Wraps nothing, on a terminal too")
+        .action(ArgAction::SetTrue)
+}
+
+fn transcript<'a>(alloc: Global) -> Arg<'a>
+    ensures rule { rule_of result ≡ transcript_rule }
+    ensures local { result.global ≡ false }
+{
+    let help = "The file that the text and the lines typed are kept in";
+    kept_in(alloc, "transcript", help, "FILE")
+}
+
+fn recorded<'a>(alloc: Global) -> Arg<'a>
+    ensures rule { rule_of result ≡ record_rule }
+    ensures local { result.global ≡ false }
+{
+    let help = "The file that the lines typed are kept in";
+    kept_in(alloc, "record", help, "FILE")
+}
+
+fn replayed<'a>(alloc: Global) -> Arg<'a>
+    ensures rule { rule_of result ≡ replay_rule }
+    ensures local { result.global ≡ false }
+{
+    let help = "A file whose lines are read before those typed";
+    kept_in(alloc, "replay", help, "FILE")
+}
+
+fn no_save<'a>(alloc: Global) -> Arg<'a>
+    ensures rule { rule_of result ≡ no_save_rule }
+    ensures local { result.global ≡ false }
+{
+    Arg::new(alloc, "no-save")
+        .long("no-save")
+        .help("Keeps no saves, on a terminal too")
+        .action(ArgAction::SetTrue)
 }
 
 /// An option whose value is the name of a file, which isn't empty.

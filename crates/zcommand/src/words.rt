@@ -1,9 +1,9 @@
 //! The words after the program's name.
 
-ghost use Rattle.std.specs.Prelude.{◌≡◌, IfOk, IsSomeAnd, codes, false, map, option_and_then, option_map};
+ghost use Rattle.std.specs.Prelude.{◌≡◌, ◌<◌, ◌≤◌, IfOk, IfSome, IsSomeAnd, codes, false, map, option_and_then, option_map};
 ghost use Rattle.clap.specs.Walk.{texts};
 ghost use Rattle.clap.specs.Words.{FailsBy, fault_of, found_of, rows_of, subcommand_name_of, subcommand_of, subcommand_rows_of};
-ghost use Rattle.zcommand.specs.CommandLine.{IsCommand, IsLow, IsReadFrom, frames_of, low_limit, files_of, is_json_asked, pair_of, target_of, zpc_app};
+ghost use Rattle.zcommand.specs.CommandLine.{IsCommand, IsLow, IsReadFrom, files_of, fitting, frames_of, front_asked, front_named, front_of, is_json_asked, is_width, low_limit, no_front, pair_of, target_of, width_of, zpc_app};
 
 use crate::commands::program;
 use clap::{ArgMatches, Error};
@@ -12,6 +12,42 @@ use zbatch::is_story_name;
 
 /// The greatest limit of frames that a certificate may name.
 pub(crate) const MOST_FRAMES: u16 = 4096;
+
+/// The most columns that text is wrapped at.
+pub(crate) const MOST_WIDTH: u16 = 1000;
+
+/// How a play shows its text, and which files lines and text go to and come from.
+#[derive(Clone, Copy, Debug, PartialEq, Eq)]
+pub struct Front<'a> {
+    /// How many columns text is wrapped at, from 1 to 1,000, if that is said.
+    pub width: Option<u16>,
+    /// Whether nothing is wrapped, on a terminal too.
+    pub plain: bool,
+    /// The name of the file that the text and the lines typed are kept in, if there is one.
+    pub transcript: Option<&'a str>,
+    /// The name of the file that the lines typed are kept in, if there is one.
+    pub record: Option<&'a str>,
+    /// The name of a file whose lines are read before those typed, if there is one.
+    pub replay: Option<&'a str>,
+    /// Whether no saves are kept, on a terminal too.
+    pub no_save: bool,
+}
+
+impl<'a> Front<'a> {
+    /// The front that asks for nothing.
+    pub fn none() -> Front<'a>
+        ensures { front_named result ≡ no_front }
+    {
+        Front {
+            width: None,
+            plain: false,
+            transcript: None,
+            record: None,
+            replay: None,
+            no_save: false,
+        }
+    }
+}
 
 /// What the words ask for.
 #[derive(Clone, Copy, Debug, PartialEq, Eq)]
@@ -173,6 +209,17 @@ pub fn command_of<'s, 'a>(matches: &'s ArgMatches<'a>) -> Command<'s, 'a>
     match matches.subcommand_matches("unpack") {
         Some(unpack) => unpack_of(unpack),
         None => unreachable!(),
+    }
+}
+
+/// How the play that the matches name shows its text, and its files of lines. Where they name another command, it asks for nothing.
+pub fn front_of<'a>(matches: &ArgMatches<'a>) -> Front<'a>
+    ensures read { front_named result ≡ front_asked (subcommand_rows_of matches.now) }
+    ensures fits { IfSome result.width (λ width. (0 < width) × (width ≤ 1000)) }
+{
+    match matches.subcommand_matches("play") {
+        Some(play) => play_front_of(play),
+        None => Front::none(),
     }
 }
 
@@ -344,6 +391,47 @@ fn play_of<'s, 'a>(matches: &'s ArgMatches<'a>) -> Command<'s, 'a>
         tell,
         force,
         lenient,
+    }
+}
+
+/// How text is shown, and the files of lines, by the matches of `play`.
+fn play_front_of<'a>(matches: &ArgMatches<'a>) -> Front<'a>
+    ensures { front_named result ≡ front_of (rows_of (found_of matches.now)) }
+{
+    let width = width_of(matches);
+    let plain = matches.get_one("plain").unwrap_or(false);
+    let transcript = matches.get_str("transcript");
+    let record = matches.get_str("record");
+    let replay = matches.get_str("replay");
+    let no_save = matches.get_one("no-save").unwrap_or(false);
+    Front {
+        width,
+        plain,
+        transcript,
+        record,
+        replay,
+        no_save,
+    }
+}
+
+/// The width among the matches of `play`, if there is one. clap lets none through that doesn't fit.
+fn width_of(matches: &ArgMatches<'_>) -> Option<u16>
+    ensures { result ≡ width_of (rows_of (found_of matches.now)) }
+{
+    fit_width(matches.get_one("width"))
+}
+
+/// The width, where it is of one column at least and isn't above the most.
+fn fit_width(width: Option<u16>) -> Option<u16>
+    ensures { result ≡ option_and_then (fitting is_width) width }
+{
+    let Some(width) = width else {
+        return None;
+    };
+    if width > 0 && width <= MOST_WIDTH {
+        Some(width)
+    } else {
+        None
     }
 }
 
