@@ -19,6 +19,7 @@ from excused import see_excused
 from facts import see_facts
 from finding import see_finding
 from frames import see_frames
+from fronts import see_fronts
 from game import see_game
 from lines import see_lines
 from lists import see_lists
@@ -461,6 +462,7 @@ def main():
     see_marks(program, count)
     see_showing(program, count, help_text("no_address.txt"))
     see_excused(program, count)
+    see_fronts(program, count)
     see_facts(program, count)
     see_stated(program, count)
     see_many(program, count, help_text("no_file_to_check.txt"), help_text("one_for_many.txt"))

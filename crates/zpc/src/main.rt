@@ -4,12 +4,20 @@
 ghost use Rattle.std.specs.Prelude.{◌≡◌, ◌≤◌, IfOk, IsTrue, map, string_bytes};
 ghost use Rattle.clap.specs.Walk.{texts};
 
+mod asking;
+mod front;
+mod keeping;
+mod seed;
+
+use crate::asking::{asked_by, put_save, save_beside};
+use crate::front::carry_out;
+use crate::seed::{draw, put_seed, random_in, say_seed};
 use std::alloc::{AllocError, Global};
 use std::env;
 use std::io::{ErrorKind, IsTerminal};
 use std::process::ExitCode;
-use zfault::{FromRead, ToWrite};
-use zperform::{Disk, Failure, Speech, fail, perform, refuse_bytes};
+use zfault::{Sink, ToWrite};
+use zperform::{Failure, fail, refuse_bytes};
 
 /// How many bytes of the stack are taken at once: more than any command was seen to need.
 const STACK: usize = 448 * 1024;
@@ -28,28 +36,68 @@ fn run(rt: &HostRuntime) -> u8 {
         }
         Err(_) => return fail(Failure::Memory, &mut errors),
     };
-    let arguments = match arguments.skip(1).collect::<Vec<String>>(rt.alloc()) {
+    let mut arguments = match arguments.skip(1).collect::<Vec<String>>(rt.alloc()) {
         Ok(arguments) => arguments,
         Err(_) => return fail(Failure::Memory, &mut errors),
     };
-    let words = match words_of(rt.alloc(), &arguments) {
-        Ok(words) => words,
-        Err(_) => return fail(Failure::Memory, &mut errors),
-    };
-    if !is_free(rt.alloc(), STACK) || !has_stack::<STACK>(words.len()) {
+    if !is_free(rt.alloc(), STACK) || !has_stack::<STACK>(arguments.len()) {
         return fail(Failure::Memory, &mut errors);
     }
-    let mut reader = FromRead::new(rt.stdin());
-    let mut writer = ToWrite::new(rt.stdout());
-    perform(
-        rt.alloc(),
-        &words,
-        speech_to(rt),
-        &mut Disk::new(rt),
-        &mut reader,
-        &mut writer,
-        &mut errors,
-    )
+    let seed = match drawn(rt, &mut arguments) {
+        Ok(seed) => seed,
+        Err(failure) => return fail(failure, &mut errors),
+    };
+    if with_save(rt, &mut arguments).is_err() {
+        return fail(Failure::Memory, &mut errors);
+    }
+    with_words(rt, &arguments, seed, &mut errors)
+}
+
+/// Draws the seed of a play where that is asked for, and puts it among the arguments.
+fn drawn(rt: &HostRuntime, arguments: &mut Vec<String>) -> Result<Option<u64>, Failure> {
+    let Some(random) = random_in(arguments) else {
+        return Ok(None);
+    };
+    let Ok(seed) = draw(rt) else {
+        return Err(Failure::Read);
+    };
+    match put_seed(rt.alloc(), arguments, random, seed) {
+        Ok(()) => Ok(Some(seed)),
+        Err(AllocError) => Err(Failure::Memory),
+    }
+}
+
+/// Names the file for the saves of a play among the arguments, where lines are typed and none is named.
+fn with_save(rt: &HostRuntime, arguments: &mut Vec<String>) -> Result<(), AllocError> {
+    if !rt.stdin().is_terminal() {
+        return Ok(());
+    }
+    let words = words_of(rt.alloc(), arguments)?;
+    let name = save_beside(rt.alloc(), &words)?;
+    drop(words);
+    match name {
+        Some(name) => put_save(rt.alloc(), arguments, name),
+        None => Ok(()),
+    }
+}
+
+/// Does what the arguments ask for, of which a seed was drawn where there is one.
+fn with_words<E: Sink>(
+    rt: &HostRuntime,
+    arguments: &[String],
+    seed: Option<u64>,
+    errors: &mut E,
+) -> u8 {
+    let Ok(words) = words_of(rt.alloc(), arguments) else {
+        return fail(Failure::Memory, errors);
+    };
+    let Ok(asked) = asked_by(rt.alloc(), &words) else {
+        return fail(Failure::Memory, errors);
+    };
+    if let (Some(seed), Some(_)) = (seed, asked) {
+        say_seed(seed, errors);
+    }
+    carry_out(rt, &words, asked, errors)
 }
 
 /// Whether so many bytes can be had. They are given back at once, and the stack may take them.
@@ -71,15 +119,6 @@ fn has_stack<const N: usize>(number: usize) -> bool
     stack[place] = 1;
     let other = if place == 0 { 1 } else { 0 };
     stack[other] == 0
-}
-
-/// How a line on the errors is told: a person who reads them on a terminal gets words, and anything else codes.
-fn speech_to(rt: &HostRuntime) -> Speech {
-    if rt.stderr().is_terminal() {
-        Speech::Words
-    } else {
-        Speech::Codes
-    }
 }
 
 /// The arguments as words, one for each.

@@ -3,7 +3,7 @@ use Rattle.std.specs.Prelude.{◌≡◌, ◌⊎◌, ℕ, List, ◌++◌, take, O
 use Rattle.zperform.specs.declared.blame.Action.{Action}
 use Rattle.zperform.specs.declared.blame.Action.TheVariants.{Read, Write}
 use Rattle.zperform.specs.declared.blame.Cause.{Cause}
-use Rattle.zperform.specs.declared.blame.Cause.TheVariants.{Missing, Denied, Folder, NoFolder, Full, BadName, Other}
+use Rattle.zperform.specs.declared.blame.Cause.TheVariants.{Missing, Denied, Folder, NoFolder, Full, BadName, NotEmpty, Other}
 use Rattle.zperform.specs.declared.blame.Blame.{Blame}
 
 -- the file of a name is blamed for what was asked of it
@@ -44,6 +44,7 @@ cause_text action Folder = codes "it is a folder"
 cause_text action NoFolder = codes "a part of its path is no folder"
 cause_text action Full = codes "the device is full"
 cause_text action BadName = codes "no file can have this name"
+cause_text action NotEmpty = codes "it is not empty"
 cause_text action Other = codes "the system failed"
 
 -- as `cannot read 'nofile.z3': no such file`

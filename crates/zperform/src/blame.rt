@@ -45,6 +45,8 @@ pub enum Cause {
     Full,
     /// The name is longer than names may be, or has a byte that none may have.
     BadName,
+    /// It holds something, and isn't to be written over.
+    NotEmpty,
     /// Anything else.
     Other,
 }
@@ -82,6 +84,7 @@ impl Cause {
             (_, Cause::NoFolder) => "a part of its path is no folder",
             (_, Cause::Full) => "the device is full",
             (_, Cause::BadName) => "no file can have this name",
+            (_, Cause::NotEmpty) => "it is not empty",
             (_, Cause::Other) => "the system failed",
         }
     }

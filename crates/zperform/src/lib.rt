@@ -28,7 +28,7 @@ mod verdict;
 mod wording;
 
 pub use blame::{Action, Blame, Cause};
-pub use files::{Disk, Files};
+pub use files::{Disk, Files, read_file};
 pub use outcome::{Failure, Outcome, Problem};
-pub use performing::{fail, perform, refuse_bytes};
+pub use performing::{fail, perform, refuse_bytes, report};
 pub use wording::Speech;

@@ -355,7 +355,7 @@ fn outcome_of(played: Result<End, Problem>) -> Outcome
 }
 
 /// Says what a command came to, and answers the exit status.
-fn report<E: Sink>(
+pub fn report<E: Sink>(
     alloc: Global,
     outcome: &Outcome,
     speech: Speech,

@@ -1,0 +1,169 @@
+"""The front of a play: text that is wrapped, the files of text and lines, a seed that is drawn, and what a terminal is given without a flag.
+How the sample game's text is wrapped is worked out here, of the text that is stored, after docs/PLAYERS.md."""
+import os
+import pty
+import re
+import select
+import subprocess
+import time
+
+from many import room
+from program import Answer
+
+HERE = os.path.dirname(os.path.abspath(__file__))
+DATA = os.path.join(HERE, "..", "..", "crates", "zpc", "data")
+SPACE, END = 32, 10
+
+
+def read(*path):
+    with open(os.path.join(*path), "rb") as file:
+        return file.read()
+
+
+GAME = read(DATA, "bell.z3")
+LINES = read(HERE, "bell.txt")
+TEXT = re.sub(rb"(?<=\n>)\[[^\n]*\]\n", b"", read(HERE, "bell.out"))
+TURNS = re.split(rb"(?<=\n>)", TEXT)
+
+
+def wrapped(turn, width):
+    """A turn's text, each space an end of line behind which no more than the width's columns would hold the next word."""
+    shown, column = bytearray(), 0
+    for place, byte in enumerate(turn):
+        word = re.match(rb"[^ \n]*", turn[place + 1:]).end()
+        if byte == SPACE and column + 1 + word > width:
+            byte = END
+        shown.append(byte)
+        column = 0 if byte == END else column + 1
+    return bytes(shown)
+
+
+def with_lines(turns, lines):
+    """The text with each line behind its prompt."""
+    return b"".join(turn + line for turn, line in zip(turns, [*lines, b""]))
+
+
+def see_fronts(program, count):
+    see_widths(program, count)
+    see_kept(program, count)
+    see_refused(program, count)
+    see_seeds(program, count)
+    see_terminal(program, count)
+
+
+def see_widths(program, count):
+    for width in (1, 7, 20, 40, 80, 1000):
+        shown = b"".join(wrapped(turn, width) for turn in TURNS)
+        count.is_answer(f"the game in {width} columns", program.run(["play", "--width", str(width), "g"], {"g": GAME}, typed=LINES), Answer(0, shown, b""))
+    count.is_answer("the game wrapped at nothing", program.run(["play", "--width", "20", "--plain", "g"], {"g": GAME}, typed=LINES), Answer(0, TEXT, b""))
+
+
+def see_kept(program, count):
+    """What is kept is what was used, also of lines that come all at once; and what is kept can be read again."""
+    lines = LINES.splitlines(keepends=True)
+    more = LINES + b"these come\nbehind the end\n"
+    with room({"g": GAME, "old": b"", "half": b"".join(lines[:9])}) as folder:
+        words = ["play", "--record", "lines", "--transcript", "old", "--width", "40", "g"]
+        shown = b"".join(wrapped(turn, 40) for turn in TURNS)
+        count.is_answer("the game, kept", program.run_in(folder, words, typed=more), Answer(0, shown, b""))
+        count.see(read(folder, "lines") == LINES, f"the lines that are kept: {read(folder, 'lines')!r}")
+        count.see(read(folder, "old") == with_lines(TURNS, lines), "the text that is kept isn't the game's with its lines")
+        count.is_answer("lines read again", program.run_in(folder, ["play", "--replay", "lines", "g"]), Answer(0, TEXT, b""))
+        words = ["play", "--replay", "half", "--record", "all", "g"]
+        count.is_answer("half of them read again", program.run_in(folder, words, typed=b"".join(lines[9:])), Answer(0, TEXT, b""))
+        count.see(read(folder, "all") == LINES, "both halves aren't kept")
+        count.is_answer("kept in a device", program.run_in(folder, ["play", "--record", "/dev/null", "g"], typed=LINES), Answer(0, TEXT, b""))
+
+
+def see_refused(program, count):
+    """A file that holds something stays as it is; and one that isn't whole is told of."""
+    failed = Answer(4, b"", b"failed: file\n")
+    for flag in ("--record", "--transcript"):
+        with room({"g": GAME, "mine": b"mine"}) as folder:
+            count.is_answer(f"{flag} of what holds something", program.run_in(folder, ["play", flag, "mine", "g"], typed=LINES), failed)
+            count.see(read(folder, "mine") == b"mine", f"{flag} has changed what was there")
+            count.is_answer(f"{flag} of a folder", program.run_in(folder, ["play", flag, ".", "g"]), failed)
+            count.is_answer(f"{flag} in no folder", program.run_in(folder, ["play", flag, "no/file", "g"]), failed)
+            full = Answer(4, TEXT, b"failed: file\n")
+            count.is_answer(f"{flag} on a full device", program.run_in(folder, ["play", flag, "/dev/full", "g"], typed=LINES), full)
+            forced = program.run_in(folder, ["play", "--force", flag, "mine", "g"], typed=LINES)
+            count.is_answer(f"{flag} with --force", forced, Answer(0, TEXT, b""))
+            wanted = LINES if flag == "--record" else with_lines(TURNS, LINES.splitlines(keepends=True))
+            count.see(read(folder, "mine") == wanted, f"{flag} with --force keeps something else")
+    count.is_answer("lines of no file", program.run(["play", "--replay", "none", "g"], {"g": GAME}), failed)
+    count.is_answer("lines of a folder", program.run(["play", "--replay", ".", "g"], {"g": GAME}), failed)
+    # Words that are wrong come first, and nothing is opened.
+    with room({"g": GAME}) as folder:
+        answer = program.run_in(folder, ["play", "--record", "lines", "--seed", "x", "g"])
+        count.see(answer.status == 2 and not os.path.exists(os.path.join(folder, "lines")), f"a file for lines beside wrong words: {answer}")
+
+
+def see_seeds(program, count):
+    drawn = set()
+    for words in (["play", "--seed", "random", "g"], ["play", "--seed=random", "g"], ["play", "g", "--seed", "random"]):
+        answer = program.run(words, {"g": GAME}, typed=LINES)
+        told = re.fullmatch(rb"seed: ([0-9]+)\n", answer.errors)
+        count.see(told is not None, f"{words}: {answer}")
+        if told:
+            drawn.add(told[1])
+            again = program.run(["play", "--seed", told[1].decode(), "g"], {"g": GAME}, typed=LINES)
+            count.see(again.output == answer.output and answer.status == 0, f"{words}: the seed that is told gives something else")
+    count.see(len(drawn) == 3, f"seeds that are drawn: {drawn}")
+    count.see(program.run(["play", "--seed", "random"], {}).status == 2, "a seed drawn for no story")
+    count.is_answer("random as a story", program.run(["play", "random"], {"random": GAME}, typed=LINES), Answer(0, TEXT, b""))
+
+
+def see_terminal(program, count):
+    """On a terminal: text is wrapped at its width, and a save is kept beside the story."""
+    for words, columns, width in [([], None, 80), ([], "40", 40), ([], "0", 80), ([], "x", 80), (["--width", "30"], "40", 30), (["--plain"], "40", None)]:
+        with room({"g.z3": GAME}) as folder:
+            shown = on_terminal(program, folder, ["play", *words, "g.z3"], columns, [b"look\n"])
+            first = TURNS[0] if width is None else wrapped(TURNS[0], width)
+            count.see(shown.startswith(first.replace(b"\n", b"\r\n")), f"on a terminal with {words}, {columns}: {shown[:300]!r}")
+    with room({"g.z3": GAME}) as folder:
+        on_terminal(program, folder, ["play", "g.z3"], None, [b"save\n"])
+        count.see(os.path.exists(os.path.join(folder, "g.qzl")), "no save beside the story")
+        on_terminal(program, folder, ["play", "--save", "mine", "g.z3"], None, [b"save\n"])
+        count.see(sorted(os.listdir(folder)) == ["g.qzl", "g.z3", "mine"], f"a save that is named: {os.listdir(folder)}")
+    with room({"g.z3": GAME}) as folder:
+        on_terminal(program, folder, ["play", "--no-save", "g.z3"], None, [b"save\n"])
+        count.see(os.listdir(folder) == ["g.z3"], f"no save wanted: {os.listdir(folder)}")
+    with room({"g.z3": GAME}) as folder:
+        program.run_in(folder, ["play", "g.z3"], typed=b"save\n")
+        count.see(os.listdir(folder) == ["g.z3"], f"a save with no terminal: {os.listdir(folder)}")
+
+
+def on_terminal(program, folder, words, columns, lines):
+    """What a terminal shows of a play, of which each line is typed once nothing more comes, and then the end of the input."""
+    ours, theirs = pty.openpty()
+    surroundings = {name: value for name, value in os.environ.items() if name != "COLUMNS"}
+    if columns is not None:
+        surroundings["COLUMNS"] = columns
+    running = subprocess.Popen([program.path, *words], cwd=folder, stdin=theirs, stdout=theirs, stderr=subprocess.PIPE, env=surroundings)
+    os.close(theirs)
+    shown = b""
+    for line in [*lines, b"\x04"]:
+        shown += heard(ours)
+        os.write(ours, line)
+    shown += heard(ours)
+    running.wait(timeout=60)
+    running.stderr.close()
+    os.close(ours)
+    return shown
+
+
+def heard(terminal):
+    """What comes until nothing has come for a while."""
+    told, until = b"", time.monotonic() + 30
+    while time.monotonic() < until:
+        ready, _, _ = select.select([terminal], [], [], 0.5)
+        if not ready:
+            break
+        try:
+            piece = os.read(terminal, 65536)
+        except OSError:
+            break
+        if not piece:
+            break
+        told += piece
+    return told
