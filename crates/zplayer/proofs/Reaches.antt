@@ -19,8 +19,8 @@ use Rattle.zstate.specs.State.{Setting, State}
 use Rattle.zstate.specs.Step.{Done, step}
 use Rattle.zstate.specs.Run.{Goes, Input, Stands, WantsMemory, awaited, handed, stop_of}
 use Rattle.zstate.proofs.Calls.{goes_join}
-use Rattle.zengine.specs.Play.{IsFaulty}
 use Rattle.zlenient.specs.declared.front.Front.{Front}
+use Rattle.zlenient.specs.Customary.{is_excusable}
 use Rattle.zlenient.specs.Front.{after_step, front_after, is_seen, seen}
 use Rattle.zlenient.specs.Laws.{IsPaused}
 use Rattle.zlenient.specs.Run.{Note, Played, behind, lenient_run, lenient_until, leniently, noted, or_stands, stands}
@@ -35,7 +35,7 @@ use Rattle.zplayer.specs.Lines.{Ahead, unused}
 use Rattle.zplayer.specs.Outside.{Coming}
 use Rattle.zplayer.specs.World.{Answers, Refuses, Store, World, world}
 use Rattle.zplayer.specs.Playing.{Meets, Supplies, Walks, WantsOrSaves, end_of, stage}
-use Rattle.zplayer.specs.Leniently.{Answers as Excuses, BreaksLeniently, Excused, FinishesLeniently, Handed, Happening, LeadsLeniently, Noted, PlaysLeniently, PlaysLenientlyInPart, Reach, inputs_of, notes_of, reach, with_note, with_notes}
+use Rattle.zplayer.specs.Leniently.{Answers as Excuses, BreaksLeniently, Excused, FinishesLeniently, Handed, Happening, LeadsLeniently, Noted, PlaysLeniently, PlaysLenientlyInPart, Reach, WantsLeniently, inputs_of, notes_of, reach, with_note, with_notes}
 use Rattle.zplayer.specs.LenientCalls.{WritesSeen, WritesSeenInPart, shown}
 use Rattle.zplayer.proofs.Stages.{awaits_step, fewer_to_come, meets_join, to_come, walks_join, walks_none}
 
@@ -286,10 +286,6 @@ noted_still hs input old now so_far = so_far ∙ ap (λ (l : List Note). with_no
 
 -- ---- what comes of a play so far
 
--- where memory may be refused to lenient play
-abbrev pub wants_or_faults : Setting → State → Type 0
-wants_or_faults m u = WantsOrSaves m u ⊎ IsFaulty (step m u)
-
 -- before the first turn
 pub starts : (m : Setting) (Takes : State → Type 0) (asked : Bool) (n : ℕ) (s : State) (f : Front) (ahead : Ahead) (input : Option (List ℕ)) (words : Option Coming) (store : Store) (c : Option (List ℕ)) → ahead ≡ record { held = []; ended = false }
     → PlaysLeniently m Takes asked [] (reach n s (world input words store) f) (reach n s (world (unused ahead input) words store) f) c c
@@ -370,7 +366,7 @@ module _ (m : Setting) (Takes : State → Type 0) (asked : Bool) (hs : List Happ
   }
 
   pub turn_broke : {T : Type 0} (r : Result T PlayError) (error : PlayError) → r ≡ Err error → ¬ IsErrOf r errors.Read → (IsErrOf r errors.OutOfMemory → WritesSeen n asked shows left k s t y z) → (IsErrOf r errors.OutOfMemory → WantsMemory n t)
-      → (IsErrOf r errors.Write → WritesSeenInPart n asked shows left k s t y z) → BreaksLeniently m Takes (wants_or_faults m) asked hs a (reach k t w f) x z error
+      → (IsErrOf r errors.Write → WritesSeenInPart n asked shows left k s t y z) → BreaksLeniently m Takes (WantsLeniently m) asked hs a (reach k t w f) x z error
   turn_broke r errors.Read is no_read finished wanted in_part = absurd (no_read is)
   turn_broke r errors.Write is no_read finished wanted in_part = turn_in_part (in_part is)
   turn_broke r errors.OutOfMemory is no_read finished wanted in_part = (turn_made (finished is), inl (inl (subst (λ (i : Setting). WantsMemory i t) same (wanted is))))
@@ -404,16 +400,16 @@ module _ (m : Setting) (Takes : State → Type 0) (asked : Bool) (hs : List Happ
         subst (λ (b : Reach). FinishesLeniently m Takes asked hs a b x z (end_of stop)) (moved unmoved (sym drawn ∙ undrawn) (sym stored ∙ untouched)) finished
 
     pub supply_broke : {T : Type 0} (r : Result T PlayError) (error : PlayError) → r ≡ Err error → OnErr r ((u ≡ t) × (after ≡ words) × (now ≡ store)) → (IsErrOf r errors.Read → awaited n t ≡ Some needs.Line) → (IsErrOf r errors.OutOfMemory → WantsOrSaves n t)
-        → BreaksLeniently m Takes (wants_or_faults m) asked hs a (reach k u (world input after now) f) x z error
+        → BreaksLeniently m Takes (WantsLeniently m) asked hs a (reach k u (world input after now) f) x z error
     supply_broke r error is unmoved at_line wanted =
         let still : (u ≡ t) × (after ≡ words) × (now ≡ store) = at_error r error is unmoved in
-        subst (λ (b : Reach). BreaksLeniently m Takes (wants_or_faults m) asked hs a b x z error) (moved still.0 still.1 still.2) (by_error error is)
+        subst (λ (b : Reach). BreaksLeniently m Takes (WantsLeniently m) asked hs a b x z error) (moved still.0 still.1 still.2) (by_error error is)
       where
         at_error : {T : Type 0} {P : Type 0} (r : Result T PlayError) (error : PlayError) → r ≡ Err error → OnErr r P → P
         at_error (Ok value) error is h = absurd cc
         at_error (Err e) error is h = h
 
-        by_error : (error : PlayError) → r ≡ Err error → BreaksLeniently m Takes (wants_or_faults m) asked hs a (reach k t here f) x z error
+        by_error : (error : PlayError) → r ≡ Err error → BreaksLeniently m Takes (WantsLeniently m) asked hs a (reach k t here f) x z error
         by_error errors.Read is = (flushed m Takes asked hs a (reach k t here f) x y so_far z kept, subst (λ (i : Setting). awaited i t ≡ Some needs.Line) same (at_line is))
         by_error errors.Write is = flush_broke m Takes asked hs a (reach k t here f) x y so_far z kept
         by_error errors.OutOfMemory is = (flushed m Takes asked hs a (reach k t here f) x y so_far z kept, inl (subst (λ (i : Setting). WantsOrSaves i t) same (wanted is)))
@@ -451,10 +447,10 @@ module _ (m : Setting) (Takes : State → Type 0) (asked : Bool) (hs : List Happ
       subst (λ (e : End). FinishesLeniently m Takes asked hs a (reach k t w f) x y e) (sym is) (finishes m Takes asked hs a (reach k t w f) x y so_far (stop_of h t) y last none_awaited (keeps_itself y))
 
   -- or memory is refused for that, and nothing changes
-  pub answer_broke : (error : PlayError) (rest : ℕ) (u : State) (g : Front) → error ≡ errors.OutOfMemory → u ≡ t → g ≡ f → rest ≡ k → BreaksLeniently m Takes (wants_or_faults m) asked hs a (reach rest u w g) x y error
-  answer_broke error rest u g is still shown none =
+  pub answer_broke : is_excusable fault ≡ true → (error : PlayError) (rest : ℕ) (u : State) (g : Front) → error ≡ errors.OutOfMemory → u ≡ t → g ≡ f → rest ≡ k → BreaksLeniently m Takes (WantsLeniently m) asked hs a (reach rest u w g) x y error
+  answer_broke able error rest u g is still shown none =
       let fails : step m t ≡ Err (halts.Fault fault) = subst (λ (i : Setting). step i t ≡ Err (halts.Fault fault)) same faults in
-      let broke : BreaksLeniently m Takes (wants_or_faults m) asked hs a (reach k t w f) x y errors.OutOfMemory = (so_far, inr (subst IsFaulty (sym fails) tt)) in
+      let broke : BreaksLeniently m Takes (WantsLeniently m) asked hs a (reach k t w f) x y errors.OutOfMemory = (so_far, inr (fault, fails, able)) in
       rw (is, still, shown, none) broke
 
 -- what stands at a fault has it for its next step

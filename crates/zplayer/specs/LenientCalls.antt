@@ -8,17 +8,16 @@ use Rattle.zquetzal.specs.declared.error.SaveError.{SaveError}
 use Rattle.zstate.specs.declared.halt.Halt.{Halt}
 use Rattle.zstate.specs.declared.halt.Halt.TheVariants as halts
 use Rattle.zstate.specs.State.{Setting, State}
-use Rattle.zstate.specs.Step.{Done, step}
-use Rattle.zengine.specs.Play.{IsFaulty}
+use Rattle.zstate.specs.Step.{Done}
 use Rattle.zstate.specs.Run.{Goes, stop_of}
 use Rattle.zlenient.specs.Front.{front_after}
 use Rattle.zlenient.specs.Step.{lenient_step}
 use Rattle.zref.specs.declared.excusing.Excuse.{Excuse}
 use Rattle.zref.specs.declared.excusing.Excuse.TheVariants as excuses
 use Rattle.zscreen.specs.Rendering.{render}
-use Rattle.zplayer.specs.Leniently.{ComesToLeniently, Happening, notes_of, with_note, with_notes}
+use Rattle.zplayer.specs.Leniently.{ComesToLeniently, Happening, WantsLeniently, notes_of, with_note, with_notes}
 use Rattle.zplayer.specs.Outside.{Coming}
-use Rattle.zplayer.specs.Playing.{WantsOrSaves, end_of}
+use Rattle.zplayer.specs.Playing.{end_of}
 use Rattle.zplayer.specs.World.{Kept, told, world}
 use Rattle.zplayer.specs.declared.end.End.{End}
 use Rattle.zplayer.specs.declared.end.End.TheVariants as ends
@@ -80,6 +79,6 @@ module _ {R W S G : Type 0} (remaining : R → Option (List ℕ)) (coming : G �
   abbrev pub ComesLeniently : Setting → Options → Devices R W S G → State → Lenience → Devices R W S G → State → Lenience → Result End PlayError → Type 0
   ComesLeniently m options old s before new t now result =
       (happenings : List Happening) × (refusals : List SaveError)
-      × ComesToLeniently m (λ _. ⊤) (λ u. WantsOrSaves m u ⊎ IsFaulty (step m u)) options happenings (world (remaining old.reader.now) (coming old.words.now) (told kept failures old.store.now [])) s before.front t now.front (coming new.words.now) (told kept failures new.store.now refusals) (contents old.writer.now) (contents new.writer.now) result
+      × ComesToLeniently m (λ _. ⊤) (WantsLeniently m) options happenings (world (remaining old.reader.now) (coming old.words.now) (told kept failures old.store.now [])) s before.front t now.front (coming new.words.now) (told kept failures new.store.now refusals) (contents old.writer.now) (contents new.writer.now) result
       × (now.notes ≡ with_notes (notes_of happenings) before.notes)
       × Follows old.store.now new.store.now refusals

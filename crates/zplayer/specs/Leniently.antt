@@ -1,23 +1,26 @@
 -- What lenient play comes to (own).
-use Rattle.std.specs.Prelude.{◌≡◌, ℕ, suc, ◌+◌, ◌-◌, ◌^◌, ◌≤◌, min, Bool, List, [], ◌∷◌, ◌++◌, Option, Some, Result, Ok, Err, MatchResult, ℤ, if◌then◌else◌}
+use Rattle.std.specs.Prelude.{◌≡◌, ◌⊎◌, ℕ, suc, ◌+◌, ◌-◌, ◌^◌, ◌≤◌, min, Bool, true, List, [], ◌∷◌, ◌++◌, Option, Some, Result, Ok, Err, MatchResult, ℤ, if◌then◌else◌}
 use Rattle.std.specs.List.{list_any}
 use Rattle.std.specs.Ordering.{int_eq}
 use Rattle.std.specs.Io.KnownBytes.{Appends}
 use Rattle.zfault.specs.Devices.{AppendsBeginning}
+use Rattle.zfault.specs.declared.fault.Fault.{Fault}
 use Rattle.zfault.specs.declared.item.Item.{Item}
 use Rattle.zfault.specs.declared.pause.Need.{Need}
 use Rattle.zfault.specs.declared.pause.Need.TheVariants as needs
+use Rattle.zstate.specs.declared.halt.Halt.{Halt}
 use Rattle.zstate.specs.declared.halt.Halt.TheVariants as halts
 use Rattle.zstate.specs.State.{Setting, State}
-use Rattle.zstate.specs.Step.{step}
+use Rattle.zstate.specs.Step.{Done, step}
 use Rattle.zstate.specs.Run.{Goes, Input, awaited}
 use Rattle.zlenient.specs.declared.front.Front.{Front}
+use Rattle.zlenient.specs.Customary.{is_excusable}
 use Rattle.zlenient.specs.Front.{front_after, seen}
 use Rattle.zlenient.specs.Run.{Note, behind, lenient_run}
 use Rattle.zlenient.specs.Step.{lenient_step}
 use Rattle.zscreen.specs.Rendering.{render}
 use Rattle.zplayer.specs.Outside.{Coming}
-use Rattle.zplayer.specs.Playing.{Meets, Stage, Walks, end_of, stage}
+use Rattle.zplayer.specs.Playing.{Meets, Stage, Walks, WantsOrSaves, end_of, stage}
 use Rattle.zplayer.specs.World.{Refuses, Store, World, world}
 use Rattle.zplayer.specs.declared.end.End.{End}
 use Rattle.zplayer.specs.declared.noting.Answered.{Answered}
@@ -151,3 +154,13 @@ module _ (m : Setting) (Takes : State → Type 0) where
     ComesToLeniently options happenings before old f new g words store written now result =
         (left : ℕ) × (input : Option (List ℕ))
         × MatchResult result (FinishesLeniently options.status happenings (reach options.budget old before f) (reach left new (world input words store) g) written now) (BreaksLeniently options.status happenings (reach options.budget old before f) (reach left new (world input words store) g) written now)
+
+-- ---- where memory may be refused
+
+-- a step is a fault for which something is customary
+abbrev pub IsExcusable : Result Done Halt → Type 0
+IsExcusable result = (fault : Fault) × (result ≡ Err (halts.Fault fault)) × (is_excusable fault ≡ true)
+
+-- to lenient play: where it may be to a checked machine, and for the answer to such a fault
+abbrev pub WantsLeniently : Setting → State → Type 0
+WantsLeniently m s = WantsOrSaves m s ⊎ IsExcusable (step m s)

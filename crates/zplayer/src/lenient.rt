@@ -1,9 +1,10 @@
 //! Lenient play: where a step is a fault for which something is customary, that is done, it is told, and play goes on.
 
-ghost use Rattle.std.specs.Prelude.{◌≡◌, ◌<◌, [], Err, None, Ok, IfErr, IfOk, IfSome, IsErrOf, OnErr, OnOk};
+ghost use Rattle.std.specs.Prelude.{◌≡◌, ◌<◌, [], Err, None, Ok, IfErr, IfOk, IfSome, IsErr, IsErrOf, OnErr, OnOk, true};
 ghost use Rattle.zstate.specs.Run.{Stands, WantsMemory};
 ghost use Rattle.zstate.specs.declared.halt.Halt.TheVariants.{Fault as AFault};
 ghost use Rattle.zstate.specs.Step.{step};
+ghost use Rattle.zlenient.specs.Customary.{is_excusable};
 ghost use Rattle.zlenient.specs.Front.{opened};
 ghost use Rattle.zref.specs.Machine.{setting, SamePlay};
 ghost use Rattle.zplayer.specs.Devices.{SameDevices};
@@ -18,7 +19,7 @@ use crate::player::supply;
 use crate::turns::{HELD, TURN, flush, standstill};
 use std::alloc::{AllocError, Global};
 use zfault::{Fault, Items, Pause, Sink, Source};
-use zlenient::Front;
+use zlenient::{Front, is_excusable};
 use zref::{CheckedMachine, Excuse};
 use zscreen::write_items;
 use zstate::{Halt, Stop};
@@ -152,7 +153,8 @@ fn turn<W: Sink>(
     }
 }
 
-/// Answers the fault that the next step is, and notes it. Answers how play ends, where it does.
+/// Answers the fault that the next step is, and notes it. Answers how play ends, where it does. Memory is wanted only where something is
+/// customary in its place.
 fn answer(
     alloc: Global,
     machine: &mut CheckedMachine,
@@ -167,7 +169,11 @@ fn answer(
     ensures answers { IfOk result (λ end. AnswersFault (setting machine.old) fault machine.old.state lenience.old left.old end machine.new.state lenience.new left.new) }
     ensures same { OnErr result ((machine.new.state ≡ machine.old.state) × (lenience.new ≡ lenience.old) × (left.new ≡ left.old)) }
     ensures only { IfErr result (λ error. error ≡ PlayError.OutOfMemory) }
+    ensures wanted { IsErr result → is_excusable fault ≡ true }
 {
+    if !is_excusable(fault) {
+        return Ok(Some(End::Fault(fault, place)));
+    }
     let is_first = lenience.notes.keep(Answered { fault, place })?;
     let excused = machine.excuse(alloc, fault, &mut lenience.front, left);
     if let Ok(Excuse::Done) = excused {

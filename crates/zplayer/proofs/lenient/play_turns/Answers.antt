@@ -118,7 +118,7 @@ returns-in_err-end-in-Some-Fault-clause-comes g c =
       (
         c.answer.new.left,
         unused c.turns.lines (g.R.Source.remaining c.turns.world.reader.now),
-        handed_on _ _ _ _ c.from_residual-in_err-end-in-Some-Fault.ensures (answer_broke _ _ _ _ _ _ _ _ _ _ _ made _ now _ faults _ _ _ _ e.only e.same.0 (ap (λ (l : Lenience). l.front) e.same.1) e.same.2),
+        handed_on _ _ _ _ c.from_residual-in_err-end-in-Some-Fault.ensures (answer_broke _ _ _ _ _ _ _ _ _ _ _ made _ now _ faults (e.wanted refl) _ _ _ _ e.only e.same.0 (ap (λ (l : Lenience). l.front) e.same.1) e.same.2),
       ),
       ap (λ (l : Lenience). l.notes) e.same.1 ∙ so_far.so_far.3,
       so_far.so_far.4,
