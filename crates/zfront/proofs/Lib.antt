@@ -5,6 +5,8 @@ pub mod Flushing
 pub mod Lining
 pub mod Sinking
 pub mod Taking
+mod WorkedLines
 mod WorkedRecords
+mod WorkedScreens
 mod WorkedTurns
 mod WorkedWrapping

@@ -15,14 +15,14 @@ use zfault::{Failed, Sink};
 ///
 /// A flush is one of the sink below alone.
 #[derive(Drop)]
-pub struct Copied<'a, W, C> {
+pub struct Copied<'a, 'c, W, C> {
     below: &'a mut W,
-    record: Record<'a, C>,
+    record: Record<'c, C>,
 }
 
-impl<'a, W, C> Copied<'a, W, C> {
+impl<'a, 'c, W, C> Copied<'a, 'c, W, C> {
     /// A sink over this one, with a copy that has all that was taken so far: nothing.
-    pub fn new(below: &'a mut W, copy: Option<&'a mut C>) -> Copied<'a, W, C>
+    pub fn new(below: &'a mut W, copy: Option<&'c mut C>) -> Copied<'a, 'c, W, C>
         ensures below_is { result.below.ghost_name ≡ below.entry.ghost_name }
         ensures copy_is { copy_name result ≡ ghost_name_of copy.entry }
         ensures below { below_of result ≡ below.old }
@@ -41,7 +41,7 @@ impl<'a, W, C> Copied<'a, W, C> {
     }
 }
 
-impl<W: Sink, C: Sink> Sink for Copied<'_, W, C> {
+impl<W: Sink, C: Sink> Sink for Copied<'_, '_, W, C> {
     ghost contents = { λ copied. W.contents (below_of copied) };
 
     ghost failures = { λ copied. W.failures (below_of copied) };

@@ -13,14 +13,14 @@ use zfault::{Failed, Sink, Source};
 /// A source of which each byte that is read goes to a sink too, in the same call. Where that fails, the record ends there: what is read is given
 /// all the same, and the sink isn't asked again. With no sink nothing is recorded.
 #[derive(Drop)]
-pub struct Recorded<'a, S, W> {
+pub struct Recorded<'a, 'c, S, W> {
     source: &'a mut S,
-    record: Record<'a, W>,
+    record: Record<'c, W>,
 }
 
-impl<'a, S, W> Recorded<'a, S, W> {
+impl<'a, 'c, S, W> Recorded<'a, 'c, S, W> {
     /// The source, with a record that has all that was read so far: nothing.
-    pub fn new(source: &'a mut S, copy: Option<&'a mut W>) -> Recorded<'a, S, W>
+    pub fn new(source: &'a mut S, copy: Option<&'c mut W>) -> Recorded<'a, 'c, S, W>
         ensures source_is { result.source.ghost_name ≡ source.entry.ghost_name }
         ensures copy_is { copy_name result ≡ ghost_name_of copy.entry }
         ensures source { source_of result ≡ source.old }
@@ -39,7 +39,7 @@ impl<'a, S, W> Recorded<'a, S, W> {
     }
 }
 
-impl<S: Source, W: Sink> Source for Recorded<'_, S, W> {
+impl<S: Source, W: Sink> Source for Recorded<'_, '_, S, W> {
     ghost remaining = { λ recorded. S.remaining (source_of recorded) };
 
     ghost failures = { λ recorded. S.failures (source_of recorded) };
