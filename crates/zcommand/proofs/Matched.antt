@@ -17,7 +17,7 @@ use Rattle.clap.specs.Words.{ReadsOne, Row, Text, first_of, first_value, matched
 use Rattle.clap.specs.declared.parser.matches.ArgMatches.{ArgMatches}
 use Rattle.clap.specs.declared.parser.matches.ArgMatches.TheViews.{out-ArgMatches, out-SubCommand}
 use Rattle.clap.specs.Simple.{subcommand_rows}
-use Rattle.zcommand.specs.CommandLine.{Front, IsLow, IsReadFrom, address_of, certificate_of, code_of, files_of, fitting, fitting_in, frames_of, front_asked, front_named, front_of, is_asked, is_limit, is_no_save_asked, is_plain_asked, is_width, no_front, number_in, number_of, out_of, output_of, packed_of, pair_of, record_of, replay_of, save_of, story_of, target_of, transcript_of, width_of}
+use Rattle.zcommand.specs.CommandLine.{Front, IsLow, IsReadFrom, address_of, certificate_of, code_of, files_of, fitting, fitting_in, frames_of, front_named, front_of, is_asked, is_limit, is_no_save_asked, is_plain_asked, is_width, number_in, number_of, out_of, output_of, packed_of, pair_of, save_of, story_of, target_of, width_of}
 use Rattle.zcommand.specs.declared.words.Command.{Command}
 use Rattle.zcommand.specs.declared.words.Command.TheVariants as commands
 use Rattle.zcommand.specs.declared.words.Front.{Front as NamedFront}
@@ -229,9 +229,6 @@ small_width n e =
 frames_are_low : (rows : List Row) → IfSome (frames_of rows) (λ n. n ≤ 4096)
 frames_are_low rows = fitting_among is_limit small_limit (λ n. n ≤ 4096) limit_fits (one_of (codes "frames") rows)
 
-width_among : (rows : List Row) → IfSome (width_of rows) (λ n. (0 < n) × (n ≤ 1000))
-width_among rows = fitting_among is_width small_width (λ n. (0 < n) × (n ≤ 1000)) width_fits (one_of (codes "width") rows)
-
 -- what is read of matches asks for no limit above the greatest
 low_among : (matches : Text × List Row) (command : Command) → IsReadFrom matches command → IsLow command
 low_among matches (commands.List story certificate json) h = tt
@@ -304,32 +301,3 @@ front_read found front width plain told kept before unkept =
     six : (w v : Option ℕ) (p q : Bool) (t u k l b c : Option Text) (n m : Bool) → w ≡ v → p ≡ q → t ≡ u → k ≡ l → b ≡ c → n ≡ m
         → front_with w p t k b n ≡ front_with v q u l c m
     six w v p q t u k l b c n m width plain told kept before unkept = cc
-
--- of the matches of `play` it is what they say
-pub front_of_play : (matches : Option (Text × List Row)) (rows : List Row) → matches ≡ Some (codes "play", rows) → front_asked matches ≡ front_of rows
-front_of_play matches rows is = ap front_asked is
-
--- and of those of another command it asks for nothing
-pub front_of_another : (m : ArgMatches) → (subcommand_name_of m ≡ Some (codes "play") → ⊥) → front_asked (subcommand_rows_of m) ≡ no_front
-front_of_another m another = go (subcommand_rows_of m) (name_first m)
-  where
-    unless : (name : Text) (rows : List Row) (b : Bool) → bytes_eq name (codes "play") ≡ b → Some name ≡ subcommand_name_of m
-        → (if b then front_of rows else no_front) ≡ no_front
-    unless name rows true e is = absurd (another (sym is ∙ ap (λ (n : Text). Some n) ((bytes_eq-Decides name (codes "play")).0 e)))
-    unless name rows false e is = refl
-
-    go : (o : Option (Text × List Row)) → option_map (λ p. p.0) o ≡ subcommand_name_of m → front_asked o ≡ no_front
-    go None is = refl
-    go (Some (name, rows)) is = unless name rows (bytes_eq name (codes "play")) refl is
-
--- a width that is asked for fits
-pub width_is_low : (matches : Option (Text × List Row)) (front : NamedFront) → front_named front ≡ front_asked matches → IfSome front.width (λ n. (0 < n) × (n ≤ 1000))
-width_is_low matches front is = subst (λ (o : Option ℕ). IfSome o (λ n. (0 < n) × (n ≤ 1000))) (sym (ap (λ (f : Front). f.width) is)) (go matches)
-  where
-    either : (rows : List Row) (b : Bool) → IfSome (if b then front_of rows else no_front).width (λ n. (0 < n) × (n ≤ 1000))
-    either rows true = width_among rows
-    either rows false = tt
-
-    go : (o : Option (Text × List Row)) → IfSome (front_asked o).width (λ n. (0 < n) × (n ≤ 1000))
-    go None = tt
-    go (Some (name, rows)) = either rows (bytes_eq name (codes "play"))

@@ -7,13 +7,18 @@ use Rattle.clap.specs.Kinds.{Kinds}
 use Rattle.clap.specs.Words.{Text, subcommand_of, fault_of}
 use Rattle.clap.specs.Walk.{bundle_met, walked}
 use Rattle.clap.specs.Faults.{defaults_fault, flags_fault, walk_fault}
-use Rattle.zcommand.specs.CommandLine.{Asks, Request, ListStory, Find, FindEach, OneForMany, Check, CheckEach, Show, Play, Info, Explain, Unpack, number_in, zpc_app}
+use Rattle.zcommand.specs.CommandLine.{Asks, Front, Request, ListStory, Find, FindEach, OneForMany, Check, CheckEach, Show, Play, Info, Explain, Unpack, fitting_in, front_asked, is_width, no_front, number_in, zpc_app}
 
 -- a number is below 2 to the 32nd, or to the 64th, and has digits alone behind one plus
 numbers :
     (number_in 32 (codes "0") ≡ 0) × (number_in 32 (codes "+17") ≡ 17) × (number_in 32 (codes "4294967295") ≡ 4294967295) × (number_in 32 (codes "4294967296") ≡ 0) × (number_in 32 (codes "1:") ≡ 0) × (number_in 32 (codes "1/") ≡ 0) × (number_in 32 (codes "1a") ≡ 0) × (number_in 32 (codes "+") ≡ 0)
     × (number_in 64 (codes "4294967296") ≡ 4294967296) × (number_in 64 (codes "18446744073709551615") ≡ 18446744073709551615) × (number_in 64 (codes "18446744073709551616") ≡ 0)
 numbers = (refl, refl, refl, refl, refl, refl, refl, refl, refl, refl, refl)
+
+-- a width is from 1 to 1000
+widths :
+    (fitting_in is_width (codes "1") ≡ Some 1) × (fitting_in is_width (codes "+80") ≡ Some 80) × (fitting_in is_width (codes "1000") ≡ Some 1000) × (fitting_in is_width (codes "0") ≡ None) × (fitting_in is_width (codes "1001") ≡ None) × (fitting_in is_width (codes "66336") ≡ None) × (fitting_in is_width (codes "8o") ≡ None) × (fitting_in is_width [] ≡ None)
+widths = (refl, refl, refl, refl, refl, refl, refl, refl)
 
 -- words that ask for something
 abbrev Ask : List Text → Request → Type 0
@@ -60,8 +65,28 @@ unfolding walked bundle_met chars encode_utf8 flags_fault walk_fault defaults_fa
 asked =
     ((refl, (refl, refl, refl, refl)), (refl, (refl, refl, refl, refl)), (refl, (refl, refl, refl, refl)), (refl, (refl, refl, refl, refl, refl, refl, refl, refl, refl, refl)), (refl, (refl, refl, refl, refl, refl, refl, refl, refl, refl, refl)), (refl, (refl, refl, refl, refl, refl, refl, refl, refl, refl, refl)), (refl, (refl, refl, refl, refl, refl, refl, refl, refl, refl, refl)), (refl, (refl, refl, refl, refl, refl, refl, refl, refl, refl, refl)), (refl, (refl, refl, refl)), (refl, (refl, refl, refl)), (refl, (refl, refl, refl, refl)), (refl, (refl, refl, refl, refl)), (refl, (refl, refl, refl, refl)), (refl, (refl, refl, refl, refl)), (refl, (refl, refl, refl, refl)), (refl, (refl, refl, refl, refl)), (refl, (refl, refl, (refl, refl, refl, refl, refl))), (refl, (refl, refl, (refl, refl, refl, refl, refl))), (refl, (refl, refl, (refl, refl, refl, refl, refl))), (refl, (refl, refl, (refl, refl, refl, refl, refl))), (refl, (refl, refl, (refl, refl, refl, refl, refl))), (refl, (refl, refl, (refl, refl, refl, refl, refl))), (refl, (refl, refl, (refl, refl, refl, refl, refl))), (refl, (refl, refl, (refl, refl, refl, refl, refl))), (refl, (refl, refl, refl, refl, (refl, refl, refl, refl, refl))), (refl, (refl, refl, refl, refl, (refl, refl, refl, refl, refl))), (refl, (refl, refl, refl, refl, (refl, refl, refl, refl, refl))), (refl, (refl, refl, refl)), (refl, (refl, refl, refl)), (refl, (refl, refl, refl)), (refl, (refl, refl, refl)), (refl, (refl, refl, refl)), (refl, (refl, refl, refl)), (refl, (refl, refl, refl)), (refl, (refl, refl, refl, refl, refl)), (refl, (refl, refl, refl, refl, refl)))
 
+-- words that ask for nothing that is wrong, and for this front
+abbrev AskFront : List Text → Front → Type 0
+AskFront words front = (fault_of zpc_app words ≡ []) × (front_asked (subcommand_of zpc_app words) ≡ front)
+
+-- each of its words is read by its own name; without them, and of another command, it asks for nothing
+shown :
+    AskFront (codes "play" ∷ codes "a.z3" ∷ []) no_front
+    × AskFront (codes "play" ∷ codes "--width" ∷ codes "80" ∷ codes "a.z3" ∷ []) (record no_front { width = Some 80 })
+    × AskFront (codes "play" ∷ codes "a.z3" ∷ codes "a.cert" ∷ codes "--width=1000" ∷ []) (record no_front { width = Some 1000 })
+    × AskFront (codes "play" ∷ codes "--plain" ∷ codes "a.z3" ∷ []) (record no_front { plain = true })
+    × AskFront (codes "play" ∷ codes "a.z3" ∷ codes "--transcript" ∷ codes "b.txt" ∷ []) (record no_front { transcript = Some (codes "b.txt") })
+    × AskFront (codes "play" ∷ codes "--record=b.txt" ∷ codes "a.z3" ∷ []) (record no_front { typed_to = Some (codes "b.txt") })
+    × AskFront (codes "play" ∷ codes "--replay" ∷ codes "b.txt" ∷ codes "a.z3" ∷ []) (record no_front { typed_before = Some (codes "b.txt") })
+    × AskFront (codes "play" ∷ codes "a.z3" ∷ codes "--no-save" ∷ []) (record no_front { no_save = true })
+    × AskFront (codes "play" ∷ codes "--no-save" ∷ codes "--replay" ∷ codes "d" ∷ codes "--record" ∷ codes "c" ∷ codes "--transcript" ∷ codes "b" ∷ codes "--plain" ∷ codes "--width" ∷ codes "1" ∷ codes "a.z3" ∷ codes "--save" ∷ codes "e" ∷ [])
+    (record { width = Some 1; plain = true; transcript = Some (codes "b"); typed_to = Some (codes "c"); typed_before = Some (codes "d"); no_save = true })
+    × AskFront (codes "check" ∷ codes "a.z3" ∷ []) no_front
+unfolding walked bundle_met chars encode_utf8 flags_fault walk_fault defaults_fault
+shown = ((refl, refl), (refl, refl), (refl, refl), (refl, refl), (refl, refl), (refl, refl), (refl, refl), (refl, refl), (refl, refl), (refl, refl))
+
 -- a command lacks a file or has too many, or there is none of the name, or none at all, or the budget is 2 to the 32nd or the
--- seed 2 to the 64th, or the flag has a value, or the option has none or an empty one, or is there twice
+-- seed 2 to the 64th, or the width isn't from 1 to 1000, or the flag has a value, or the option has none or an empty one, or is there twice
 is_wrong : Kinds → Bool
 is_wrong [] = false
 is_wrong (kind ∷ kinds) = true
@@ -97,5 +122,24 @@ wrong :
     × (is_wrong (fault_of zpc_app (codes "play" ∷ codes "hello.z3" ∷ codes "--save" ∷ [] ∷ [])) ≡ true)
     × (is_wrong (fault_of zpc_app (codes "play" ∷ codes "hello.z3" ∷ codes "--save=" ∷ [])) ≡ true)
     × (is_wrong (fault_of zpc_app (codes "play" ∷ codes "hello.z3" ∷ codes "--seed" ∷ codes "18446744073709551616" ∷ [])) ≡ true)
+    × (is_wrong (fault_of zpc_app (codes "play" ∷ codes "a.z3" ∷ codes "--width" ∷ codes "0" ∷ [])) ≡ true)
+    × (is_wrong (fault_of zpc_app (codes "play" ∷ codes "a.z3" ∷ codes "--width" ∷ codes "1001" ∷ [])) ≡ true)
+    × (is_wrong (fault_of zpc_app (codes "play" ∷ codes "a.z3" ∷ codes "--width" ∷ [])) ≡ true)
+    × (is_wrong (fault_of zpc_app (codes "play" ∷ codes "a.z3" ∷ codes "--width=" ∷ [])) ≡ true)
+    × (is_wrong (fault_of zpc_app (codes "play" ∷ codes "a.z3" ∷ codes "--width" ∷ codes "80" ∷ codes "--width" ∷ codes "80" ∷ [])) ≡ true)
+    × (is_wrong (fault_of zpc_app (codes "play" ∷ codes "a.z3" ∷ codes "--plain=true" ∷ [])) ≡ true)
+    × (is_wrong (fault_of zpc_app (codes "play" ∷ codes "--plain" ∷ codes "a.z3" ∷ codes "--plain" ∷ [])) ≡ true)
+    × (is_wrong (fault_of zpc_app (codes "play" ∷ codes "a.z3" ∷ codes "--transcript" ∷ [])) ≡ true)
+    × (is_wrong (fault_of zpc_app (codes "play" ∷ codes "a.z3" ∷ codes "--transcript" ∷ [] ∷ [])) ≡ true)
+    × (is_wrong (fault_of zpc_app (codes "play" ∷ codes "a.z3" ∷ codes "--transcript=" ∷ [])) ≡ true)
+    × (is_wrong (fault_of zpc_app (codes "play" ∷ codes "a.z3" ∷ codes "--transcript" ∷ codes "b" ∷ codes "--transcript" ∷ codes "c" ∷ [])) ≡ true)
+    × (is_wrong (fault_of zpc_app (codes "play" ∷ codes "a.z3" ∷ codes "--record" ∷ [] ∷ [])) ≡ true)
+    × (is_wrong (fault_of zpc_app (codes "play" ∷ codes "a.z3" ∷ codes "--record=" ∷ [])) ≡ true)
+    × (is_wrong (fault_of zpc_app (codes "play" ∷ codes "a.z3" ∷ codes "--replay" ∷ [] ∷ [])) ≡ true)
+    × (is_wrong (fault_of zpc_app (codes "play" ∷ codes "a.z3" ∷ codes "--replay=" ∷ [])) ≡ true)
+    × (is_wrong (fault_of zpc_app (codes "play" ∷ codes "a.z3" ∷ codes "--no-save=true" ∷ [])) ≡ true)
+    × (is_wrong (fault_of zpc_app (codes "play" ∷ codes "--no-save" ∷ codes "a.z3" ∷ codes "--no-save" ∷ [])) ≡ true)
+    × (is_wrong (fault_of zpc_app (codes "check" ∷ codes "a.z3" ∷ codes "--record" ∷ codes "b" ∷ [])) ≡ true)
+    × (is_wrong (fault_of zpc_app (codes "list" ∷ codes "a.z3" ∷ codes "--width" ∷ codes "80" ∷ [])) ≡ true)
 unfolding is_wrong walked bundle_met chars encode_utf8 flags_fault walk_fault defaults_fault
-wrong = (refl, refl, refl, refl, refl, refl, refl, refl, refl, refl, refl, refl, refl, refl, refl, refl, refl, refl, refl, refl, refl, refl, refl, refl, refl, refl, refl, refl, refl, refl)
+wrong = (refl, refl, refl, refl, refl, refl, refl, refl, refl, refl, refl, refl, refl, refl, refl, refl, refl, refl, refl, refl, refl, refl, refl, refl, refl, refl, refl, refl, refl, refl, refl, refl, refl, refl, refl, refl, refl, refl, refl, refl, refl, refl, refl, refl, refl, refl, refl, refl, refl)
