@@ -396,7 +396,7 @@ fn seed<'a>(alloc: Global) -> Arg<'a>
 {
     Arg::new(alloc, "seed")
         .long("seed")
-        .help("Decides the random words")
+        .help("Decides the random words; random draws it")
         .value_name("N")
         .value_parser(value_parser!(u64))
         .default_value(SEED)
