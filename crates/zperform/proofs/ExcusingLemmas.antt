@@ -1,11 +1,9 @@
 -- What comes of lenient play, and what is told of it.
-use Rattle.std.proofs.Common.{◌≡◌, ◌⊎◌, ◌∙◌, inl, inr, ℕ, Bool, List, [], ◌∷◌, ◌++◌, Option, Result, Ok, Err, IsErr, IsErrAnd, refl, sym, ap, subst, true≢false}
+use Rattle.std.proofs.Common.{◌≡◌, ◌∙◌, inl, inr, ℕ, Bool, List, [], ◌∷◌, ◌++◌, Option, Result, Ok, Err, refl, ap, subst}
 use Rattle.std.specs.Prelude.{⊤}
 use Rattle.zquetzal.specs.declared.error.SaveError.{SaveError}
 use Rattle.zstory.specs.LoadedStory.{LoadedStory}
 use Rattle.zstate.specs.State.{State, opening}
-use Rattle.zstate.specs.Step.{step}
-use Rattle.zengine.specs.Play.{IsFaulty}
 use Rattle.zlenient.specs.Front.{opened}
 use Rattle.zref.specs.Machine.{Machine, setting}
 use Rattle.zref.specs.declared.scope.Scope.TheVariants.{All}
@@ -14,9 +12,8 @@ use Rattle.zplayer.specs.declared.end.Options.{Options}
 use Rattle.zplayer.specs.declared.end.PlayError.{PlayError}
 use Rattle.zplayer.specs.declared.lenient.Lenience.{Lenience}
 use Rattle.zplayer.specs.declared.noting.Answered.{Answered}
-use Rattle.zplayer.specs.Leniently.{ComesToLeniently, Happening, Noted, notes_of, with_notes}
+use Rattle.zplayer.specs.Leniently.{ComesToLeniently, Happening, Noted, WantsLeniently, notes_of, with_notes}
 use Rattle.zplayer.specs.Outside.{Coming}
-use Rattle.zplayer.specs.Playing.{WantsOrSaves}
 use Rattle.zplayer.specs.World.{Store, World}
 use Rattle.zcheck.specs.Judged.{JudgedOver}
 use Rattle.zcheck.specs.declared.judged.Judged.TheVariants.{Whole, Marked}
@@ -30,23 +27,12 @@ use Rattle.zperform.specs.Devices.{Held, Says, Seen}
 use Rattle.zperform.specs.Excusing.{ExcusedTo, IsPlayedLeniently, IsWarning, PlaysExcused, SaysBoth, SaysExcused, SaysWarnings, none_noted}
 use Rattle.zperform.specs.Performing.{given, store_of}
 use Rattle.zperform.specs.Playing.{StaysEmpty}
-use Rattle.zperform.specs.Report.{outcome_of, problem_of_play}
+use Rattle.zperform.specs.Report.{problem_of_play}
 use Rattle.zperform.specs.Telling.{said_of}
 use Rattle.zperform.specs.declared.outcome.Failure.TheVariants.{Memory}
-use Rattle.zperform.specs.declared.outcome.Problem.{Problem}
 use Rattle.zperform.specs.declared.outcome.Problem.TheVariants.{Failed}
 use Rattle.zperform.specs.declared.outcome.Outcome.{Outcome}
-use Rattle.zperform.specs.declared.outcome.Outcome.TheVariants.{Stopped}
 use Rattle.zperform.proofs.AcceptLemmas.{story_bytes}
-
--- a problem that is handed on
-pub passed_back : (P : Result End Problem → Type 0) (r : Result End Problem) (problem : Problem) → IsErr r × IsErrAnd r (λ q. q ≡ problem) → P (Err problem) → P r
-passed_back P (Ok end) problem (is, same) h = absurd (true≢false (sym is))
-passed_back P (Err q) problem (is, same) h = subst (λ (x : Problem). P (Err x)) (sym same) h
-
-pub stopped_so : (r : Result End Problem) (problem : Problem) → IsErr r × IsErrAnd r (λ q. q ≡ problem) → outcome_of r ≡ outcome_of (Err problem)
-stopped_so (Ok end) problem (is, same) = absurd (true≢false (sym is))
-stopped_so (Err q) problem (is, same) = ap Stopped same
 
 -- there was no memory for the machine
 pub unopened : (known : Option (List ℕ)) (story : LoadedStory) → HoldsStory known story → (options : Options) (noted : Noted) → noted ≡ none_noted → (given : World) (before : Option (List ℕ)) → ExcusedTo known options noted given [] before before (Err (Failed Memory))
@@ -55,7 +41,7 @@ unopened known story holds options noted none given before = inl (refl, story_by
 -- a story that was loaded was played leniently
 module _ (known : Option (List ℕ)) (story : LoadedStory) (holds : HoldsStory known story) (options : Options) (m : Machine) (made : m ≡ record { story = story; scope = All; state = opening story }) (begun : Lenience) (fresh : begun ≡ record { front = opened; notes = none_noted }) (given : World) (before now : Option (List ℕ)) (state : State) (words : Option Coming) (store : Store) (unsaved : StaysEmpty given.store store) (refusals : List SaveError) (refused : store.refusals ≡ refusals) (left : Lenience) (happenings : List Happening) (noted_is : left.notes ≡ with_notes (notes_of happenings) begun.notes) where
   abbrev Came : Machine → Lenience → Result End PlayError → Type 0
-  Came x l result = ComesToLeniently (setting x) (λ _. ⊤) (λ u. WantsOrSaves (setting x) u ⊎ IsFaulty (step (setting x) u)) options happenings given x.state l.front state left.front words store before now result
+  Came x l result = ComesToLeniently (setting x) (λ _. ⊤) (WantsLeniently (setting x)) options happenings given x.state l.front state left.front words store before now result
 
   played : (result : Result End PlayError) → Came m begun result → HoldsSuch known (λ story. IsPlayedLeniently story options left.notes given refusals before now result)
   played result came = (

@@ -4,8 +4,6 @@ use Rattle.zquetzal.specs.declared.error.SaveError.{SaveError}
 use Rattle.zfault.specs.Fault.{number_of as fault_number}
 use Rattle.zstory.specs.LoadedStory.{LoadedStory}
 use Rattle.zstate.specs.State.{State, opening}
-use Rattle.zstate.specs.Step.{step}
-use Rattle.zengine.specs.Play.{IsFaulty}
 use Rattle.zlenient.specs.declared.front.Front.{Front}
 use Rattle.zlenient.specs.Front.{opened}
 use Rattle.zref.specs.Machine.{setting_of}
@@ -14,9 +12,8 @@ use Rattle.zplayer.specs.declared.end.Options.{Options}
 use Rattle.zplayer.specs.declared.end.End.{End}
 use Rattle.zplayer.specs.declared.end.PlayError.{PlayError}
 use Rattle.zplayer.specs.declared.noting.Answered.{Answered}
-use Rattle.zplayer.specs.Leniently.{ComesToLeniently, Happening, Noted, notes_of, with_notes}
+use Rattle.zplayer.specs.Leniently.{ComesToLeniently, Happening, Noted, WantsLeniently, notes_of, with_notes}
 use Rattle.zplayer.specs.Outside.{Coming}
-use Rattle.zplayer.specs.Playing.{WantsOrSaves}
 use Rattle.zplayer.specs.World.{Store, World}
 use Rattle.zperform.specs.Accepting.{HoldsSuch, IsNoStory, IsOfEither, IsUnacceptedStory}
 use Rattle.zperform.specs.Beside.{Aside, Unsought, Absent, Used, Unused, Excused}
@@ -47,7 +44,7 @@ pub record IsPlayedLeniently (story : LoadedStory) (options : Options) (noted : 
   pub front : Front
   pub words : Option Coming
   pub store : Store
-  pub comes : ComesToLeniently (setting_of story All) (λ _. ⊤) (λ u. WantsOrSaves (setting_of story All) u ⊎ IsFaulty (step (setting_of story All) u)) options happenings given (opening story) opened state front words store before now result
+  pub comes : ComesToLeniently (setting_of story All) (λ _. ⊤) (WantsLeniently (setting_of story All)) options happenings given (opening story) opened state front words store before now result
   pub noted_is : noted ≡ with_notes (notes_of happenings) none_noted
   pub unsaved : StaysEmpty given.store store
   pub refused : store.refusals ≡ refusals
