@@ -81,7 +81,8 @@ fn with_save(rt: &HostRuntime, arguments: &mut Vec<String>) -> Result<(), AllocE
     }
 }
 
-/// Does what the arguments ask for, of which a seed was drawn where there is one.
+/// Does what the arguments ask for, of which a seed was drawn where there is one. What it takes of the stack isn't taken before that was looked at.
+#[inline(never)]
 fn with_words<E: Sink>(
     rt: &HostRuntime,
     arguments: &[String],
