@@ -1,5 +1,5 @@
 -- What comes of lenient play, and what is told of it.
-use Rattle.std.proofs.Common.{◌≡◌, ◌∙◌, inl, inr, ℕ, Bool, List, [], ◌∷◌, ◌++◌, Option, Result, Ok, Err, refl, ap, subst}
+use Rattle.std.proofs.Common.{◌≡◌, ◌∙◌, inl, inr, ℕ, Bool, List, [], ◌∷◌, ◌++◌, Option, Result, Ok, Err, IsErr, IsErrAnd, refl, ap, subst}
 use Rattle.std.specs.Prelude.{⊤}
 use Rattle.zquetzal.specs.declared.error.SaveError.{SaveError}
 use Rattle.zstory.specs.LoadedStory.{LoadedStory}
@@ -27,12 +27,18 @@ use Rattle.zperform.specs.Devices.{Held, Says, Seen}
 use Rattle.zperform.specs.Excusing.{ExcusedTo, IsPlayedLeniently, IsWarning, PlaysExcused, SaysBoth, SaysExcused, SaysWarnings, none_noted}
 use Rattle.zperform.specs.Performing.{given, store_of}
 use Rattle.zperform.specs.Playing.{StaysEmpty}
-use Rattle.zperform.specs.Report.{problem_of_play}
+use Rattle.zperform.specs.Report.{outcome_of, problem_of_play}
 use Rattle.zperform.specs.Telling.{said_of}
 use Rattle.zperform.specs.declared.outcome.Failure.TheVariants.{Memory}
+use Rattle.zperform.specs.declared.outcome.Problem.{Problem}
 use Rattle.zperform.specs.declared.outcome.Problem.TheVariants.{Failed}
 use Rattle.zperform.specs.declared.outcome.Outcome.{Outcome}
 use Rattle.zperform.proofs.AcceptLemmas.{story_bytes}
+use Rattle.zperform.proofs.SessionLemmas.{handed_on}
+
+-- so an outcome is that of the problem
+pub stopped_so : (r : Result End Problem) (problem : Problem) → IsErr r × IsErrAnd r (λ q. q ≡ problem) → outcome_of r ≡ outcome_of (Err problem)
+stopped_so r problem said = handed_on (λ (o : Outcome). o ≡ outcome_of (Err problem)) r problem said refl
 
 -- there was no memory for the machine
 pub unopened : (known : Option (List ℕ)) (story : LoadedStory) → HoldsStory known story → (options : Options) (noted : Noted) → noted ≡ none_noted → (given : World) (before : Option (List ℕ)) → ExcusedTo known options noted given [] before before (Err (Failed Memory))

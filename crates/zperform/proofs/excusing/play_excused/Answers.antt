@@ -1,23 +1,20 @@
-use Rattle.std.proofs.Common.{◌≡◌, ◌∙◌, ℕ, List, [], inl, inr, ap, refl, rules, subst, sym}
+use Rattle.std.proofs.Common.{◌∙◌, ℕ, List, [], inl, inr, ap, refl, rules, subst, sym}
 use Rattle.std.specs.Prelude.{Option}
 use Rattle.zstory.specs.LoadedStory.{LoadedStory}
 use Rattle.zperform.specs.Accepting.{HoldsStory}
 use Rattle.zperform.specs.Beside.{Excused}
 use Rattle.zperform.specs.Excusing.{none_noted}
 use Rattle.zperform.specs.Played.{file_of}
-use Rattle.zperform.specs.declared.outcome.Outcome.{Outcome}
-use Rattle.zperform.specs.declared.outcome.Outcome.TheVariants.{Stopped}
-use Rattle.zperform.proofs.ExcusingLemmas.{accepted_story, says_nothing}
-use Rattle.zperform.proofs.SessionLemmas.{handed_on}
+use Rattle.zperform.proofs.ExcusingLemmas.{accepted_story, says_nothing, stopped_so}
 use Rattle.zperform.proofs.excusing.play_excused.Goals as goal
 
 pub returns-in_err-story-in-None-clause-comes : goal.returns-in_err-story-in-None-clause-comes
 returns-in_err-story-in-None-clause-comes g c =
-    rw c.in-None.is (Excused none_noted, [], (none_noted, refl, inl (_, handed_on (λ (o : Outcome). o ≡ Stopped _) _ _ c.from_residual.ensures refl, c.in_err-story-in-None.ensures.refused, refl, refl, refl)), says_nothing c.args.asked.tell (file_of c.args.asked) _)
+    rw c.in-None.is (Excused none_noted, [], (none_noted, refl, inl (_, stopped_so _ _ c.from_residual.ensures, c.in_err-story-in-None.ensures.refused, refl, refl, refl)), says_nothing c.args.asked.tell (file_of c.args.asked) _)
 
 pub returns-in_err-accepted-in-Some-clause-comes : goal.returns-in_err-accepted-in-Some-clause-comes
 returns-in_err-accepted-in-Some-clause-comes g c =
-    rw c.in-Some.is (Excused none_noted, [], (none_noted, refl, inl (_, handed_on (λ (o : Outcome). o ≡ Stopped _) _ _ c.from_residual-in_err-accepted-in-Some.ensures refl, c.in_err-accepted-in-Some.ensures.refused, refl, refl, refl)), says_nothing c.args.asked.tell (file_of c.args.asked) _)
+    rw c.in-Some.is (Excused none_noted, [], (none_noted, refl, inl (_, stopped_so _ _ c.from_residual-in_err-accepted-in-Some.ensures, c.in_err-accepted-in-Some.ensures.refused, refl, refl, refl)), says_nothing c.args.asked.tell (file_of c.args.asked) _)
 
 pub returns-in_ok-story-in-None-clause-comes : goal.returns-in_ok-story-in-None-clause-comes
 returns-in_ok-story-in-None-clause-comes g c =
