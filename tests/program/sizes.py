@@ -547,6 +547,8 @@ GROWTH = [
     ("zexplain all_codes", "a line of each of the codes, which are always the same", None),
     ("zcommand read_words", "words, and letters of a word", long_names),
     ("zperform", "names of files", long_names),
+    ("zfront new", "a piece of 1,024 bytes, and as many as the width has columns", None),
+    ("zpc", "words, and names of files", long_names),
 ]
 
 
