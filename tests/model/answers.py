@@ -11,6 +11,7 @@ from machine import Machine, Store
 from known import Known
 from rules import instruction_fault, judge
 from stories import Refused, Story
+from wrapping import in_turns
 
 REASONS = {}  # the first line that `explain` has of each rule and fault: tests/program/finding.py holds its texts
 
@@ -147,11 +148,15 @@ def played(case, tally):
     if is_lenient:
         told += warnings_of(machine, tally)
     saved = store.contents if store else None
+    output = machine.output
+    if "--width" in options and "--plain" not in options:
+        output = in_turns(output, machine.asked, int(options["--width"]))
+        tally.codes["wrapped"] += 1
     if isinstance(end, int):
         tally.codes[f"F{end}"] += 1
-        return 3, machine.output, told + b"fault: F%d at %s\n" % (end, at(machine.place)), saved
+        return 3, output, told + b"fault: F%d at %s\n" % (end, at(machine.place)), saved
     tally.codes[end] += 1
-    return 0, machine.output, told + (b"" if end == "quit" else b"end: %s\n" % end.encode()), saved
+    return 0, output, told + (b"" if end == "quit" else b"end: %s\n" % end.encode()), saved
 
 
 def in_short(code):
@@ -168,7 +173,7 @@ def warnings_of(machine, tally):
 
 
 COMMANDS = {"list": listed, "check": checked, "play": played}
-FLAGS = {"--status", "--tell", "--lenient", "--force", "--strict", "--places"}
+FLAGS = {"--status", "--tell", "--lenient", "--force", "--strict", "--places", "--plain", "--no-save"}
 PLACE = rb"( at ([0-9a-f]{5}|-[0-9]+|[0-9]{7,}))?"  # as `at` tells it
 NONE_FOUND = re.compile(
     rb"refused: (?:G1\nbroken: (S[1-8])|(G[12])" + PLACE + rb"\n(no certificate: [SIU][0-9]{1,2}" + PLACE + rb"|not found))\n"

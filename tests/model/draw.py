@@ -58,6 +58,10 @@ def options(draw):
         found.append("--status")
     if draw.random() < 0.4:
         found += ["--seed", str(draw.choice([0, 1, 2, draw.randrange(2**32), 2**64 - 1]))]
+    if draw.random() < 0.25:
+        found += ["--width", str(draw.choice([1, 2, 3, 5, 8, 20, 80, 1000]))]
+    if draw.random() < 0.05:
+        found.append(draw.choice(["--plain", "--no-save"]))
     return found
 
 

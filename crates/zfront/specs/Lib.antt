@@ -1,4 +1,5 @@
 pub mod Copies
+pub mod Cursors
 pub mod Lines
 pub mod Owed
 pub mod ReadAhead

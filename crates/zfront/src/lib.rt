@@ -2,7 +2,9 @@
 #![tactic(auto)]
 
 mod ahead;
+mod aside;
 mod copied;
+mod cursor;
 mod followed;
 mod giving;
 mod laws;
@@ -11,11 +13,14 @@ mod pending;
 mod record;
 mod recorded;
 mod screen;
+mod shown;
 mod turns;
 mod wrapped;
 mod wrapper;
 
+pub use aside::Aside;
 pub use copied::Copied;
+pub use cursor::Cursor;
 pub use followed::Followed;
 pub use laws::{
     failed_calls_lose_nothing, failed_flushes_lose_nothing, failed_writes_lose_nothing,
@@ -25,6 +30,7 @@ pub use laws::{
 pub use lined::Lined;
 pub use recorded::Recorded;
 pub use screen::Screen;
+pub use shown::{Shown, Typed};
 pub use turns::Turns;
 pub use wrapped::Wrapped;
 pub use wrapper::Wrapper;
