@@ -49,6 +49,7 @@ def see_fronts(program, count):
     see_refused(program, count)
     see_seeds(program, count)
     see_terminal(program, count)
+    see_lines_of_their_own(program, count)
 
 
 def see_widths(program, count):
@@ -133,13 +134,25 @@ def see_terminal(program, count):
         count.see(os.listdir(folder) == ["g.z3"], f"a save with no terminal: {os.listdir(folder)}")
 
 
-def on_terminal(program, folder, words, columns, lines):
+def see_lines_of_their_own(program, count):
+    """On a terminal what is told beside the text begins a line, whether a prompt stands there or not; elsewhere it has no line more."""
+    with room({"g.z3": GAME}) as folder:
+        shown = on_terminal(program, folder, ["play", "g.z3"], None, [], subprocess.STDOUT)
+        count.see(shown.endswith(b"\n>\r\nend: no input\r\n"), f"an end behind a prompt: {shown[-60:]!r}")
+        shown = on_terminal(program, folder, ["play", "none.z3"], None, [], subprocess.STDOUT)
+        count.see(shown.startswith(b"failed: file: "), f"a failure at first: {shown!r}")
+        shown = on_terminal(program, folder, ["play", "--lenient", "--budget", "1", "g.z3"], None, [], subprocess.STDOUT)
+        count.see(shown == b"end: budget\r\n", f"an end before any text: {shown!r}")
+    count.is_answer("an end behind a prompt, on no terminal", program.run(["play", "g"], {"g": GAME}), Answer(0, TURNS[0], b"end: no input\n"))
+
+
+def on_terminal(program, folder, words, columns, lines, errors=subprocess.PIPE):
     """What a terminal shows of a play, of which each line is typed once nothing more comes, and then the end of the input."""
     ours, theirs = pty.openpty()
     surroundings = {name: value for name, value in os.environ.items() if name != "COLUMNS"}
     if columns is not None:
         surroundings["COLUMNS"] = columns
-    running = subprocess.Popen([program.path, *words], cwd=folder, stdin=theirs, stdout=theirs, stderr=subprocess.PIPE, env=surroundings)
+    running = subprocess.Popen([program.path, *words], cwd=folder, stdin=theirs, stdout=theirs, stderr=errors, env=surroundings)
     os.close(theirs)
     shown = b""
     for line in [*lines, b"\x04"]:
@@ -147,7 +160,8 @@ def on_terminal(program, folder, words, columns, lines):
         os.write(ours, line)
     shown += heard(ours)
     running.wait(timeout=60)
-    running.stderr.close()
+    if running.stderr:
+        running.stderr.close()
     os.close(ours)
     return shown
 

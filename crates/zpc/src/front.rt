@@ -4,10 +4,10 @@ use crate::asking::Asked;
 use crate::keeping::{open, open_again};
 use std::alloc::Global;
 use std::env;
-use std::io::{Cursor, IsTerminal, Write};
+use std::io::{self, IsTerminal, Write};
 use std::rt::Runtime;
 use zfault::{FromRead, Sink, Source, ToWrite};
-use zfront::{Copied, Followed, Lined, Recorded, Screen};
+use zfront::{Aside, Copied, Cursor, Followed, Lined, Recorded, Screen, Shown, Typed};
 use zperform::{
     Action, Blame, Cause, Disk, Failure, Files, Outcome, Problem, Speech, fail, perform, read_file,
     report,
@@ -45,7 +45,12 @@ pub fn carry_out<E: Sink>(
         Err(problem) => return stop(rt, problem, files.blame(), errors),
     };
     match kept(rt, asked) {
-        Ok(kept) => with_screen(rt, words, asked, replayed, kept, &mut files, errors),
+        Ok(kept) => {
+            let cursor = Cursor::new(is_one_terminal(rt));
+            with_output(
+                rt, words, asked, replayed, kept, &mut files, &cursor, errors,
+            )
+        }
         Err(blame) => stop(rt, Problem::Failed(Failure::File), Some(&blame), errors),
     }
 }
@@ -99,21 +104,67 @@ struct Ended {
     is_recorded: bool,
 }
 
-/// Does what the words ask for, with text that is shown as a play asks, and says at the end where a file isn't whole.
-fn with_screen<K: Write + Drop, F: Files, E: Sink>(
+/// Does what the words ask for with text that is shown on the output, and moves the cursor.
+fn with_output<K: Write + Drop, F: Files, E: Sink>(
     rt: &HostRuntime,
     words: &[&str],
     asked: Option<Asked<'_>>,
     replayed: Vec<u8>,
     kept: KeptFiles<K>,
     files: &mut F,
+    cursor: &Cursor,
     errors: &mut E,
 ) -> u8 {
-    let mut shown = ToWrite::new(rt.stdout());
-    let Ok(mut screen) = Screen::new(rt.alloc(), &mut shown, width(rt, asked)) else {
+    let mut output = ToWrite::new(rt.stdout());
+    let mut shown = Shown::new(&mut output, cursor);
+    with_errors(
+        rt, words, asked, replayed, kept, files, cursor, &mut shown, errors,
+    )
+}
+
+/// Does it with errors that begin a line.
+fn with_errors<K: Write + Drop, F: Files, W: Sink, E: Sink>(
+    rt: &HostRuntime,
+    words: &[&str],
+    asked: Option<Asked<'_>>,
+    replayed: Vec<u8>,
+    kept: KeptFiles<K>,
+    files: &mut F,
+    cursor: &Cursor,
+    shown: &mut W,
+    errors: &mut E,
+) -> u8 {
+    let mut told = Aside::new(errors, cursor);
+    with_screen(
+        rt, words, asked, replayed, kept, files, cursor, shown, &mut told,
+    )
+}
+
+/// Does it with text that is shown as a play asks, and says at the end where a file isn't whole.
+fn with_screen<K: Write + Drop, F: Files, W: Sink, E: Sink>(
+    rt: &HostRuntime,
+    words: &[&str],
+    asked: Option<Asked<'_>>,
+    replayed: Vec<u8>,
+    kept: KeptFiles<K>,
+    files: &mut F,
+    cursor: &Cursor,
+    shown: &mut W,
+    errors: &mut E,
+) -> u8 {
+    let Ok(mut screen) = Screen::new(rt.alloc(), shown, width(rt, asked)) else {
         return fail(Failure::Memory, errors);
     };
-    let ended = with_copy(rt, words, replayed, kept, files, &mut screen, errors);
+    let ended = with_copy(
+        rt,
+        words,
+        replayed,
+        kept,
+        files,
+        cursor,
+        &mut screen,
+        errors,
+    );
     say_unkept(rt, asked, ended, errors)
 }
 
@@ -124,6 +175,7 @@ fn with_copy<K: Write + Drop, F: Files, W: Sink, E: Sink>(
     replayed: Vec<u8>,
     kept: KeptFiles<K>,
     files: &mut F,
+    cursor: &Cursor,
     screen: &mut W,
     errors: &mut E,
 ) -> Ended {
@@ -140,6 +192,7 @@ fn with_copy<K: Write + Drop, F: Files, W: Sink, E: Sink>(
         record,
         transcript_lines,
         files,
+        cursor,
         &mut writer,
         errors,
     );
@@ -147,7 +200,7 @@ fn with_copy<K: Write + Drop, F: Files, W: Sink, E: Sink>(
     ended
 }
 
-/// Does it with lines of a file, and then of the input.
+/// Does it with lines of the input, which a terminal shows as they are typed.
 fn with_lines<K: Write + Drop, F: Files, W: Sink, E: Sink>(
     rt: &HostRuntime,
     words: &[&str],
@@ -155,12 +208,31 @@ fn with_lines<K: Write + Drop, F: Files, W: Sink, E: Sink>(
     record: Option<ToWrite<K>>,
     transcript: Option<ToWrite<K>>,
     files: &mut F,
+    cursor: &Cursor,
     writer: &mut W,
     errors: &mut E,
 ) -> Ended {
-    let mut before = FromRead::new(Cursor::new(replayed));
-    let mut typed = FromRead::new(rt.stdin());
-    let mut lines = Followed::new(&mut before, &mut typed);
+    let mut input = FromRead::new(rt.stdin());
+    let mut typed = Typed::new(&mut input, cursor);
+    with_replay(
+        rt, words, replayed, record, transcript, files, &mut typed, writer, errors,
+    )
+}
+
+/// Does it with lines of a file before those.
+fn with_replay<K: Write + Drop, F: Files, R: Source, W: Sink, E: Sink>(
+    rt: &HostRuntime,
+    words: &[&str],
+    replayed: Vec<u8>,
+    record: Option<ToWrite<K>>,
+    transcript: Option<ToWrite<K>>,
+    files: &mut F,
+    typed: &mut R,
+    writer: &mut W,
+    errors: &mut E,
+) -> Ended {
+    let mut before = FromRead::new(io::Cursor::new(replayed));
+    let mut lines = Followed::new(&mut before, typed);
     one_by_one(
         rt, words, record, transcript, files, &mut lines, writer, errors,
     )
@@ -253,6 +325,11 @@ fn say_unkept<E: Sink>(
         }
         None => ended.status,
     }
+}
+
+/// Whether lines are typed, and text and errors shown, on terminals.
+fn is_one_terminal(rt: &HostRuntime) -> bool {
+    rt.stdin().is_terminal() && rt.stdout().is_terminal() && rt.stderr().is_terminal()
 }
 
 /// How many columns text is wrapped at, if it is: on a terminal, unless that isn't wanted, those that it has.
