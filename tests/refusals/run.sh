@@ -154,6 +154,10 @@ refuse_each list "$work/story.lists" "$work/certificate.lists"
 refuse_each check "$work/story.lists" "$work/certificate.lists"
 refuse_each show "$work/story.lists" "$work/certificate.lists"
 refuse_each play "$work/story.lists" "$work/certificate.lists"
+printf 'look\ntake hook\n' >"$work/lines"
+refuse_each play --width 40 hello.z3
+refuse_each play --width 30 --transcript /dev/null --record /dev/null --replay "$work/lines" bell.z3
+refuse_each play --replay "$work/absent" hello.z3
 refuse_each unpack "$work/restores" "$work/packed" "$work/plain"
 refuse_each unpack "$work/restores" "$work/kept" "$work/plain"
 refuse_each play --save "$work/new" "$work/saves"
