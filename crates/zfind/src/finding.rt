@@ -19,6 +19,7 @@ use crate::settling::settled;
 use crate::state::Plan;
 use crate::visits::{Allowance, MOST_LIST_WORK, MOST_VISITS, MOST_WORK, count_work};
 use crate::walk::Walk;
+use crate::watch::{Unwatched, Watch};
 use std::alloc::Global;
 use zcert::Certificate;
 use zcheck::examine;
@@ -86,15 +87,27 @@ struct Failure {
 /// refused for that (G1): no certificate was found, and what stood in its way is told; it is the lister's fault, or what the checker says
 /// first of a certificate with lists that was tried. G2 comes where the 4,000,001st instruction would be visited, or more work done than
 /// `MOST_WORK`, before a first round of walks is done; the walks with lists have counts of their own. G3 comes where memory was refused.
-#[tactic(auto, using(crate::proofs::Failures::of_lists))]
 pub fn find(alloc: Global, story: &Story) -> Result<Found, FindError>
     ensures passes { IfOk result (IsFound story.now) }
     ensures failed { IfErr result (IsFailure story.now) }
 {
-    match listed::<Interval>(alloc, story, &mut allowed(MOST_WORK)) {
+    find_watched(alloc, story, &Unwatched)
+}
+
+/// The same, of which a watch is told.
+#[tactic(auto, using(crate::proofs::Failures::of_lists))]
+pub(crate) fn find_watched<W: Watch>(
+    alloc: Global,
+    story: &Story,
+    watch: &W,
+) -> Result<Found, FindError>
+    ensures passes { IfOk result (IsFound story.now) }
+    ensures failed { IfErr result (IsFailure story.now) }
+{
+    match listed::<Interval, W>(alloc, story, &mut allowed(MOST_WORK), watch) {
         Ok(certificate) => Ok(Found::Intervals(certificate)),
         Err(FindError::NotFound(_)) => {
-            match listed::<Values>(alloc, story, &mut allowed(MOST_LIST_WORK)) {
+            match listed::<Values, W>(alloc, story, &mut allowed(MOST_LIST_WORK), watch) {
                 Ok(certificate) => Ok(Found::Lists(certificate)),
                 Err(error) => Err(error),
             }
@@ -126,25 +139,27 @@ pub(crate) fn listing_of(alloc: Global, story: &Story) -> Result<Listing, FindEr
 
 /// A certificate of a story, if it has a listing. So many visits are left.
 #[tactic(auto, using(crate::proofs::Failures::of_listing, crate::proofs::Failures::of_walk))]
-pub(crate) fn listed<V: Kind>(
+pub(crate) fn listed<V: Kind, W: Watch>(
     alloc: Global,
     story: &Story,
     left: &mut Allowance,
+    watch: &W,
 ) -> Result<Certificate<V>, FindError>
     ensures passes { IfOk result (Passes V.operations story.now) }
     ensures failed { IfErr result (IsFailureOf V.operations story.now) }
     ensures less { IsLess left.new left.old }
 {
     let listing = listing_of(alloc, story)?;
-    searched(alloc, story, listing, left)
+    searched(alloc, story, listing, left, watch)
 }
 
 /// A certificate over what is listed and, where routines are called through variables alone, over these too.
-fn searched<V: Kind>(
+fn searched<V: Kind, W: Watch>(
     alloc: Global,
     story: &Story,
     first: Listing,
     left: &mut Allowance,
+    watch: &W,
 ) -> Result<Certificate<V>, FindError>
     ensures passes { IfOk result (Passes V.operations story.now) }
     ensures failed { IfErr result (IsWalkFailure V.operations story.now left.new) }
@@ -152,29 +167,30 @@ fn searched<V: Kind>(
 {
     let mut listing = first;
     for _ in 0..MOST_EXTENSIONS {
-        match search_of(alloc, story, &listing, left)? {
+        match search_of(alloc, story, &listing, left, watch)? {
             Round::Passed(certificate) => return Ok(certificate),
             Round::Failed(error) => return Err(error),
             Round::Wider(more) => listing = more,
         }
     }
-    last_search(alloc, story, &listing, left)
+    last_search(alloc, story, &listing, left, watch)
 }
 
 /// What comes of the walks over a listing, which wait for routines that aren't listed.
 #[tactic(auto, using(crate::proofs::Failures::walk_failure, crate::proofs::Failures::of_stopped))]
-fn search_of<V: Kind>(
+fn search_of<V: Kind, W: Watch>(
     alloc: Global,
     story: &Story,
     listing: &Listing,
     left: &mut Allowance,
+    watch: &W,
 ) -> Result<Round<Certificate<V>>, FindError>
     ensures round { IfOk result (IsRound V.operations story.now left.new) }
     ensures failed { IfErr result (IsWalkFailure V.operations story.now left.new) }
     ensures less { IsLess left.new left.old }
 {
     let code = Code::new(alloc, story, listing)?.waiting();
-    let failure = match walked_by_each(alloc, story, &code, left)? {
+    let failure = match walked_by_each(alloc, story, &code, left, watch)? {
         Search::Passed(certificate) => return Ok(Round::Passed(certificate)),
         Search::Failed(failure) => failure,
     };
@@ -203,18 +219,19 @@ pub(crate) fn wider(
 
 /// The certificate of the walks over a listing, in which routines that aren't listed may give anything.
 #[tactic(auto, using(crate::proofs::Failures::walk_failure, crate::proofs::Failures::of_stopped))]
-fn last_search<V: Kind>(
+fn last_search<V: Kind, W: Watch>(
     alloc: Global,
     story: &Story,
     listing: &Listing,
     left: &mut Allowance,
+    watch: &W,
 ) -> Result<Certificate<V>, FindError>
     ensures passes { IfOk result (Passes V.operations story.now) }
     ensures failed { IfErr result (IsWalkFailure V.operations story.now left.new) }
     ensures less { IsLess left.new left.old }
 {
     let code = Code::new(alloc, story, listing)?;
-    match walked_by_each(alloc, story, &code, left)? {
+    match walked_by_each(alloc, story, &code, left, watch)? {
         Search::Passed(certificate) => Ok(certificate),
         Search::Failed(failure) => Err(failure.error),
     }
@@ -222,23 +239,24 @@ fn last_search<V: Kind>(
 
 /// What comes of walks in which routines that never return are said to give 0, and of those that say otherwise, where the first don't find
 /// a certificate. What stood in the way is that of the first.
-fn walked_by_each<V: Kind>(
+fn walked_by_each<V: Kind, W: Watch>(
     alloc: Global,
     story: &Story,
     code: &Code<'_>,
     left: &mut Allowance,
+    watch: &W,
 ) -> Result<Search<Certificate<V>>, FindError>
     ensures search { IfOk result (IsSearch V.operations story.now) }
     ensures less { IsLess left.new left.old }
     ensures stopped { IfErr result (IsStopped left.new) }
 {
-    let failure = match walked(alloc, story, code, 0, left)? {
+    let failure = match walked(alloc, story, code, 0, left, watch)? {
         Search::Passed(certificate) => return Ok(Search::Passed(certificate)),
         Search::Failed(failure) => failure,
     };
     if failure.has_ended && failure.wanted.is_none() {
         for given in OTHERS_GIVEN {
-            match walked(alloc, story, code, given, left) {
+            match walked(alloc, story, code, given, left, watch) {
                 Ok(Search::Passed(certificate)) => return Ok(Search::Passed(certificate)),
                 Ok(Search::Failed(_)) | Err(FindError::RoundLimit) => {}
                 Err(error) => return Err(error),
@@ -250,12 +268,13 @@ fn walked_by_each<V: Kind>(
 
 /// What comes of several walks, of which each is kept from widening beyond what the one before left. A routine that never returns is said to
 /// give this word.
-fn walked<V: Kind>(
+fn walked<V: Kind, W: Watch>(
     alloc: Global,
     story: &Story,
     code: &Code<'_>,
     given: u16,
     left: &mut Allowance,
+    watch: &W,
 ) -> Result<Search<Certificate<V>>, FindError>
     ensures search { IfOk result (IsSearch V.operations story.now) }
     ensures less { IsLess left.new left.old }
@@ -267,7 +286,7 @@ fn walked<V: Kind>(
             continue;
         }
         plan.delay = delay;
-        match make_attempt(alloc, story, code, plan, left)? {
+        match make_attempt(alloc, story, code, plan, left, watch)? {
             Attempt::Passed(certificate) => return Ok(Search::Passed(certificate)),
             Attempt::Wanting(failure) => return Ok(Search::Failed(failure)),
             Attempt::Failed(next) => plan = next,
@@ -275,7 +294,7 @@ fn walked<V: Kind>(
     }
     plan.delay = LAST_DELAY;
     let mut walk = Walk::new(alloc, code, plan)?;
-    walk.grow(left)?;
+    walk.grow(left, watch)?;
     count_work(left, walk.cost_of_check())?;
     let certificate = certificate_of(alloc, code, &mut walk)?;
     Ok(last_tried(story, walk, certificate))
@@ -310,19 +329,20 @@ fn failure_of<V: Kind>(walk: Walk<'_, V>, error: FindError) -> Failure
 
 /// A walk, and whether its certificate passes.
 #[tactic(auto, using(crate::proofs::Failures::met_by))]
-fn make_attempt<V: Kind>(
+fn make_attempt<V: Kind, W: Watch>(
     alloc: Global,
     story: &Story,
     code: &Code<'_>,
     plan: Plan<V>,
     left: &mut Allowance,
+    watch: &W,
 ) -> Result<Attempt<Certificate<V>, Plan<V>>, FindError>
     ensures passes { IfOk result (IsAttempt V.operations story.now) }
     ensures less { IsLess left.new left.old }
     ensures stopped { IfErr result (IsStopped left.new) }
 {
     let mut walk = Walk::new(alloc, code, plan)?;
-    walk.grow(left)?;
+    walk.grow(left, watch)?;
     count_work(left, walk.cost_of_check())?;
     let certificate = certificate_of(alloc, code, &mut walk)?;
     let error = match tried(story, certificate) {
@@ -332,20 +352,21 @@ fn make_attempt<V: Kind>(
     if walk.is_wanting() {
         return Ok(Attempt::Wanting(failure_of(walk, error)));
     }
-    Ok(Attempt::Failed(next_plan(alloc, code, walk, left)?))
+    Ok(Attempt::Failed(next_plan(alloc, code, walk, left, watch)?))
 }
 
 /// How the walk goes behind one that is at its end.
-pub(crate) fn next_plan<V: Kind>(
+pub(crate) fn next_plan<V: Kind, W: Watch>(
     alloc: Global,
     code: &Code<'_>,
     mut walk: Walk<'_, V>,
     left: &mut Allowance,
+    watch: &W,
 ) -> Result<Plan<V>, FindError>
     ensures less { IsLess left.new left.old }
     ensures stopped { IfErr result (IsStopped left.new) }
 {
-    let caps = settled(alloc, code, &mut walk, left)?;
+    let caps = settled(alloc, code, &mut walk, left, watch)?;
     Ok(Plan {
         is_settled: walk.state.is_within(&caps),
         caps: Some(caps),

@@ -33,6 +33,7 @@ mod state;
 mod thresholds;
 mod visits;
 mod walk;
+mod watch;
 
 pub use error::{FindError, Obstacle};
 pub use finding::find;
@@ -41,3 +42,4 @@ pub use limited::find_limited;
 pub use marking::{find_marked, find_unmarked};
 pub use obstacles::broken_in_all;
 pub use visits::{MOST_LIST_WORK, MOST_VISITS, MOST_WORK};
+pub use watch::{Unwatched, Watch};

@@ -8,9 +8,10 @@ ghost use Rattle.zfind.specs.Found.{IsFoundWithin};
 ghost use Rattle.zfind.specs.declared.error.FindError.TheVariants.{OutOfMemory};
 
 use crate::error::FindError;
-use crate::finding::{allowed, find, listed, tried};
+use crate::finding::{allowed, find_watched, listed, tried};
 use crate::found::Found;
 use crate::visits::MOST_LIST_WORK;
+use crate::watch::{Unwatched, Watch};
 use std::alloc::Global;
 use zcert::{CertBuilder, CertError, Certificate, Field, Instruction};
 use zdomain::{Interval, Values};
@@ -29,18 +30,36 @@ pub fn find_limited(
     ensures passes { IfOk result (IsFoundWithin story.now limit) }
     ensures failed { IfErr result (IsFailureOf values_operations story.now) }
 {
-    let certificate = found_with_lists(alloc, story)?;
+    find_limited_watched(alloc, story, limit, &Unwatched)
+}
+
+/// The same, of which a watch is told.
+pub(crate) fn find_limited_watched<W: Watch>(
+    alloc: Global,
+    story: &Story,
+    limit: u16,
+    watch: &W,
+) -> Result<Certificate<Values>, FindError>
+    requires low { limit ≤ 4096 }
+    ensures passes { IfOk result (IsFoundWithin story.now limit) }
+    ensures failed { IfErr result (IsFailureOf values_operations story.now) }
+{
+    let certificate = found_with_lists(alloc, story, watch)?;
     Ok(certificate.with_limit(limit))
 }
 
 /// A certificate that passes, of sets that may be lists.
 #[tactic(auto, using(crate::proofs::Failures::by_lists))]
-fn found_with_lists(alloc: Global, story: &Story) -> Result<Certificate<Values>, FindError>
+fn found_with_lists<W: Watch>(
+    alloc: Global,
+    story: &Story,
+    watch: &W,
+) -> Result<Certificate<Values>, FindError>
     ensures passes { IfOk result (Passes values_operations story.now) }
     ensures failed { IfErr result (IsFailureOf values_operations story.now) }
 {
-    match find(alloc, story) {
-        Ok(Found::Intervals(certificate)) => with_lists(alloc, story, &certificate),
+    match find_watched(alloc, story, watch) {
+        Ok(Found::Intervals(certificate)) => with_lists(alloc, story, &certificate, watch),
         Ok(Found::Lists(certificate) | Found::Marked(certificate)) => Ok(certificate),
         Err(error) => Err(error),
     }
@@ -48,10 +67,11 @@ fn found_with_lists(alloc: Global, story: &Story) -> Result<Certificate<Values>,
 
 /// The certificate that says the same by sets that may be lists, or where that doesn't pass another.
 #[tactic(auto, using(crate::proofs::Failures::without_memory))]
-fn with_lists(
+fn with_lists<W: Watch>(
     alloc: Global,
     story: &Story,
     certificate: &Certificate<Interval>,
+    watch: &W,
 ) -> Result<Certificate<Values>, FindError>
     ensures passes { IfOk result (Passes values_operations story.now) }
     ensures failed { IfErr result (IsFailureOf values_operations story.now) }
@@ -62,7 +82,7 @@ fn with_lists(
     };
     match tried(story, same) {
         Ok(passed) => Ok(passed),
-        Err(_) => listed::<Values>(alloc, story, &mut allowed(MOST_LIST_WORK)),
+        Err(_) => listed::<Values, W>(alloc, story, &mut allowed(MOST_LIST_WORK), watch),
     }
 }
 

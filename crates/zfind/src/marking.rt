@@ -12,13 +12,14 @@ use crate::certificate::marked_certificate_of;
 use crate::code::Code;
 use crate::error::FindError;
 use crate::extending::lenient_listing;
-use crate::finding::{MOST_EXTENSIONS, allowed, find, next_plan, wider};
+use crate::finding::{MOST_EXTENSIONS, allowed, find_watched, next_plan, wider};
 use crate::found::Found;
-use crate::limited::find_limited;
+use crate::limited::find_limited_watched;
 use crate::state::{Haste, Plan};
 use crate::thresholds::Thresholds;
 use crate::visits::{Allowance, MOST_LIST_WORK, count_work};
 use crate::walk::Walk;
+use crate::watch::Watch;
 use std::alloc::{AllocError, Global};
 use zcert::{Certificate, Instruction, Spelled, USUAL_FRAMES};
 use zcheck::examine_unmarked;
@@ -64,15 +65,20 @@ enum MarkedRound {
 /// G1 comes where even that doesn't pass, as where a rule of the story is broken: it tells what is wrong with it first, but at marks. G2
 /// never comes, and G3 where memory was refused.
 #[tactic(auto, using(crate::proofs::Marked::without_unmarked, crate::proofs::Marked::of_walks))]
-pub fn find_marked(alloc: Global, story: &Story, limit: Option<u16>) -> Result<Found, FindError>
+pub fn find_marked<W: Watch>(
+    alloc: Global,
+    story: &Story,
+    limit: Option<u16>,
+    watch: &W,
+) -> Result<Found, FindError>
     requires low { IfSome limit (λ n. n ≤ 4096) }
     ensures passes { IfOk result (IsFoundMarked story.now limit) }
     ensures failed { IfErr result (IsMarkedFailure story.now limit) }
 {
-    match find_unmarked(alloc, story, limit) {
+    match find_unmarked(alloc, story, limit, watch) {
         Ok(found) => Ok(found),
         Err(FindError::OutOfMemory) => Err(FindError::OutOfMemory),
-        Err(_) => match marked_by_walks(alloc, story, limit.unwrap_or(USUAL_FRAMES)) {
+        Err(_) => match marked_by_walks(alloc, story, limit.unwrap_or(USUAL_FRAMES), watch) {
             Ok(certificate) => Ok(Found::Marked(certificate)),
             Err(error) => Err(error),
         },
@@ -80,14 +86,19 @@ pub fn find_marked(alloc: Global, story: &Story, limit: Option<u16>) -> Result<F
 }
 
 /// A certificate for a story that marks nothing (own): what `find` finds, or where a limit of frames is asked for `find_limited`.
-pub fn find_unmarked(alloc: Global, story: &Story, limit: Option<u16>) -> Result<Found, FindError>
+pub fn find_unmarked<W: Watch>(
+    alloc: Global,
+    story: &Story,
+    limit: Option<u16>,
+    watch: &W,
+) -> Result<Found, FindError>
     requires low { IfSome limit (λ n. n ≤ 4096) }
     ensures passes { IfOk result (IsFoundUnmarked story.now limit) }
     ensures failed { IfErr result (FailsUnmarked story.now limit) }
 {
     match limit {
-        None => find(alloc, story),
-        Some(limit) => match find_limited(alloc, story, limit) {
+        None => find_watched(alloc, story, watch),
+        Some(limit) => match find_limited_watched(alloc, story, limit, watch) {
             Ok(certificate) => Ok(Found::Lists(certificate)),
             Err(error) => Err(error),
         },
@@ -96,10 +107,11 @@ pub fn find_unmarked(alloc: Global, story: &Story, limit: Option<u16>) -> Result
 
 /// The certificate of the walk over all that can be listed that has the fewest marks.
 #[tactic(auto, using(crate::proofs::Marked::of_memory))]
-fn marked_by_walks(
+fn marked_by_walks<W: Watch>(
     alloc: Global,
     story: &Story,
     limit: u16,
+    watch: &W,
 ) -> Result<Certificate<Values>, FindError>
     requires low { limit ≤ 4096 }
     ensures passes { IfOk result (IsMarkedWithin story.now limit) }
@@ -108,25 +120,28 @@ fn marked_by_walks(
     let mut left = allowed(MOST_LIST_WORK);
     let mut listing = lenient_listing(alloc, story)?;
     for _ in 0..MOST_EXTENSIONS {
-        match marked_round(alloc, story, &listing, limit, &mut left)? {
+        match marked_round(alloc, story, &listing, limit, &mut left, watch)? {
             MarkedRound::Made(first) => {
-                return fewest_marks(alloc, story, &listing, first, limit, &mut left);
+                return fewest_marks(alloc, story, &listing, first, limit, &mut left, watch);
             }
             MarkedRound::Wider(more) => listing = more,
-            MarkedRound::Stopped => return last_marked(alloc, story, &listing, limit, &mut left),
+            MarkedRound::Stopped => return last_marked(
+                alloc, story, &listing, limit, &mut left, watch,
+            ),
         }
     }
-    last_marked(alloc, story, &listing, limit, &mut left)
+    last_marked(alloc, story, &listing, limit, &mut left, watch)
 }
 
 /// What comes of a walk over a listing that waits for the routines that are called and not listed.
 #[tactic(auto, using(crate::proofs::Marked::of_memory))]
-fn marked_round(
+fn marked_round<W: Watch>(
     alloc: Global,
     story: &Story,
     listing: &Listing,
     limit: u16,
     left: &mut Allowance,
+    watch: &W,
 ) -> Result<MarkedRound, FindError>
     requires low { limit ≤ 4096 }
     ensures passes { IfOk result (IsMarkedRound story.now limit) }
@@ -137,7 +152,7 @@ fn marked_round(
         .marking()
         .telling();
     let mut walk = Walk::new(alloc, &code, first_plan(alloc, &code)?)?;
-    if !went(walk.grow(left))? {
+    if !went(walk.grow(left, watch))? {
         return Ok(MarkedRound::Stopped);
     }
     if walk.is_wanting() {
@@ -146,7 +161,7 @@ fn marked_round(
             None => Ok(MarkedRound::Stopped),
         };
     }
-    Ok(MarkedRound::Made(attempt_of(alloc, story, &code, walk, true, limit, left)?))
+    Ok(MarkedRound::Made(attempt_of(alloc, story, &code, walk, true, limit, left, watch)?))
 }
 
 /// A listing with the routines that are wanted, as far as work is left.
@@ -167,20 +182,29 @@ fn wider_if_left(
 
 /// The certificate with the fewest marks of walks over all that is listed, which wait for nothing.
 #[tactic(auto, using(crate::proofs::Marked::of_memory))]
-fn last_marked(
+fn last_marked<W: Watch>(
     alloc: Global,
     story: &Story,
     listing: &Listing,
     limit: u16,
     left: &mut Allowance,
+    watch: &W,
 ) -> Result<Certificate<Values>, FindError>
     requires low { limit ≤ 4096 }
     ensures passes { IfOk result (IsMarkedWithin story.now limit) }
     ensures failed { IfErr result (IsUnmarkable story.now limit) }
 {
     let code = Code::new(alloc, story, listing)?.marking().telling();
-    let first = make_marked(alloc, story, &code, first_plan(alloc, &code)?, limit, left)?;
-    fewest_marks(alloc, story, listing, first, limit, left)
+    let first = make_marked(
+        alloc,
+        story,
+        &code,
+        first_plan(alloc, &code)?,
+        limit,
+        left,
+        watch,
+    )?;
+    fewest_marks(alloc, story, listing, first, limit, left, watch)
 }
 
 /// How the first walk goes that leads to marks.
@@ -210,13 +234,14 @@ fn went(walked: Result<(), FindError>) -> Result<bool, FindError>
 /// The certificate with the fewest marks of the first walk and some more, of which each is kept from widening beyond what the one before
 /// left.
 #[tactic(auto, using(crate::proofs::Marked::of_memory))]
-fn fewest_marks(
+fn fewest_marks<W: Watch>(
     alloc: Global,
     story: &Story,
     listing: &Listing,
     first: MarkedAttempt,
     limit: u16,
     left: &mut Allowance,
+    watch: &W,
 ) -> Result<Certificate<Values>, FindError>
     requires low { limit ≤ 4096 }
     requires first { IsMarkedWithin story.now limit first.certificate }
@@ -231,7 +256,7 @@ fn fewest_marks(
             return Ok(best);
         };
         plan.delay = delay;
-        let attempt = make_marked(alloc, story, &code, plan, limit, left)?;
+        let attempt = make_marked(alloc, story, &code, plan, limit, left, watch)?;
         best = with_fewer(best, attempt.certificate);
         next = attempt.next;
     }
@@ -251,26 +276,27 @@ fn with_fewer(first: Certificate<Values>, second: Certificate<Values>) -> Certif
 
 /// A walk, and its certificate, which marks where a rule is broken.
 #[tactic(auto, using(crate::proofs::Marked::of_memory, crate::proofs::Marked::of_tried))]
-fn make_marked(
+fn make_marked<W: Watch>(
     alloc: Global,
     story: &Story,
     code: &Code<'_>,
     plan: Plan<Values>,
     limit: u16,
     left: &mut Allowance,
+    watch: &W,
 ) -> Result<MarkedAttempt, FindError>
     requires low { limit ≤ 4096 }
     ensures passes { IfOk result (λ attempt. IsMarkedWithin story.now limit attempt.certificate) }
     ensures failed { IfErr result (IsUnmarkable story.now limit) }
 {
     let mut walk = Walk::new(alloc, code, plan)?;
-    let grown = has_grown(&mut walk, left)?;
-    attempt_of(alloc, story, code, walk, grown, limit, left)
+    let grown = has_grown(&mut walk, left, watch)?;
+    attempt_of(alloc, story, code, walk, grown, limit, left, watch)
 }
 
 /// What comes of a walk, which may have been stopped before its end.
 #[tactic(auto, using(crate::proofs::Marked::of_memory, crate::proofs::Marked::of_tried))]
-fn attempt_of(
+fn attempt_of<W: Watch>(
     alloc: Global,
     story: &Story,
     code: &Code<'_>,
@@ -278,6 +304,7 @@ fn attempt_of(
     grown: bool,
     limit: u16,
     left: &mut Allowance,
+    watch: &W,
 ) -> Result<MarkedAttempt, FindError>
     requires low { limit ≤ 4096 }
     ensures passes { IfOk result (λ attempt. IsMarkedWithin story.now limit attempt.certificate) }
@@ -286,7 +313,7 @@ fn attempt_of(
     let paid = went(count_work(left, walk.cost_of_check()))?;
     let certificate = tried_unmarked(story, marked_of(alloc, story, code, &mut walk, limit)?)?;
     let next = if grown && paid && walk.plan.haste.is_none() {
-        plan_if_left(alloc, code, walk, left)?
+        plan_if_left(alloc, code, walk, left, watch)?
     } else {
         None
     };
@@ -295,27 +322,32 @@ fn attempt_of(
 
 /// Walks, and says whether that came to its end. Where it didn't, whatever grows is said to have any word from there on, and as much is
 /// allowed once more.
-fn has_grown(walk: &mut Walk<'_, Values>, left: &mut Allowance) -> Result<bool, FindError>
+fn has_grown<W: Watch>(
+    walk: &mut Walk<'_, Values>,
+    left: &mut Allowance,
+    watch: &W,
+) -> Result<bool, FindError>
     ensures { IfErr result (λ error. error ≡ OutOfMemory) }
 {
-    if went(walk.grow(left))? {
+    if went(walk.grow(left, watch))? {
         return Ok(true);
     }
     walk.plan.is_hasty = true;
-    let _ended = went(walk.grow(&mut allowed(MOST_LIST_WORK)))?;
+    let _ended = went(walk.grow(&mut allowed(MOST_LIST_WORK), watch))?;
     Ok(false)
 }
 
 /// How the next walk goes, as far as more is allowed.
-fn plan_if_left(
+fn plan_if_left<W: Watch>(
     alloc: Global,
     code: &Code<'_>,
     walk: Walk<'_, Values>,
     left: &mut Allowance,
+    watch: &W,
 ) -> Result<Option<Plan<Values>>, FindError>
     ensures { IfErr result (λ error. error ≡ OutOfMemory) }
 {
-    match next_plan(alloc, code, walk, left) {
+    match next_plan(alloc, code, walk, left, watch) {
         Ok(plan) => Ok(Some(plan)),
         Err(FindError::OutOfMemory) => Err(FindError::OutOfMemory),
         Err(_) => Ok(None),

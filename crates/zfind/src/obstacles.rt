@@ -12,6 +12,7 @@ use crate::error::{FindError, Obstacle};
 use crate::finding::{MOST_EXTENSIONS, listing_of, wider};
 use crate::visits::{Allowance, count_work};
 use crate::walk::Walk;
+use crate::watch::Watch;
 use std::alloc::Global;
 use zcert::{Certificate, Spelled};
 use zcheck::examine;
@@ -51,12 +52,16 @@ enum Sight {
 ///
 /// That such a rule is broken in each certificate is tried, and not proved.
 #[tactic(auto, using(crate::proofs::Telling::told_where_listed))]
-pub fn broken_in_all(alloc: Global, story: &Story) -> Result<Option<Obstacle>, FindError>
+pub fn broken_in_all<W: Watch>(
+    alloc: Global,
+    story: &Story,
+    watch: &W,
+) -> Result<Option<Obstacle>, FindError>
     ensures told { IfOk result (IsTold story.now) }
     ensures memory { IfErr result (λ error. error ≡ OutOfMemory) }
 {
     match listing_of(alloc, story) {
-        Ok(listing) => broken_in_listed(alloc, story, listing),
+        Ok(listing) => broken_in_listed(alloc, story, listing, watch),
         Err(fault) => certain_fault(story, fault),
     }
 }
@@ -95,10 +100,11 @@ fn is_at_start(story: &Story, obstacle: Obstacle) -> bool
 }
 
 /// The same of a story that has a listing. Where routines are called through variables alone, each certificate lists them too.
-fn broken_in_listed(
+fn broken_in_listed<W: Watch>(
     alloc: Global,
     story: &Story,
     first: Listing,
+    watch: &W,
 ) -> Result<Option<Obstacle>, FindError>
     ensures told { IfOk result (λ obstacle. IfSome obstacle (IsMet story.now)) }
     ensures memory { IfErr result (λ error. error ≡ OutOfMemory) }
@@ -109,7 +115,7 @@ fn broken_in_listed(
         work: MOST_FAIR_WORK,
     };
     for _ in 0..MOST_EXTENSIONS {
-        match broken_so_far(alloc, story, &listing, &mut left)? {
+        match broken_so_far(alloc, story, &listing, &mut left, watch)? {
             Sight::Told(told) => return Ok(told),
             Sight::Wider(more) => listing = more,
         }
@@ -118,18 +124,19 @@ fn broken_in_listed(
 }
 
 /// The same of a listing, or what is listed next.
-fn broken_so_far(
+fn broken_so_far<W: Watch>(
     alloc: Global,
     story: &Story,
     listing: &Listing,
     left: &mut Allowance,
+    watch: &W,
 ) -> Result<Sight, FindError>
     ensures sight { IfOk result (IsSight story.now) }
     ensures memory { IfErr result (λ error. error ≡ OutOfMemory) }
 {
     let code = Code::new(alloc, story, listing)?.waiting();
     let mut walk = Walk::fair(alloc, &code)?;
-    if let Some(obstacle) = broken_in_code(alloc, story, &code, &mut walk, left)? {
+    if let Some(obstacle) = broken_in_code(alloc, story, &code, &mut walk, left, watch)? {
         return Ok(Sight::Told(Some(obstacle)));
     }
     if left.work == 0 {
@@ -144,19 +151,20 @@ fn broken_so_far(
 
 /// The same of what is listed, as far as work is left.
 #[tactic(auto, using(crate::proofs::Telling::met_where_broken))]
-fn broken_in_code(
+fn broken_in_code<W: Watch>(
     alloc: Global,
     story: &Story,
     code: &Code<'_>,
     walk: &mut Walk<'_, Values>,
     left: &mut Allowance,
+    watch: &W,
 ) -> Result<Option<Obstacle>, FindError>
     ensures told { IfOk result (λ obstacle. IfSome obstacle (IsMet story.now)) }
     ensures memory { IfErr result (λ error. error ≡ OutOfMemory) }
 {
     left.visits = MOST_FAIR_VISITS;
     for _ in 0..MOMENTS {
-        let grown = walk.grow(left);
+        let grown = walk.grow(left, watch);
         if count_work(left, walk.cost_of_check()).is_err() {
             return Ok(None);
         }

@@ -4,6 +4,7 @@ ghost use Rattle.std.specs.Prelude.{◌≡◌, ◌+◌, IfErr, OnOk};
 ghost use Rattle.zfind.specs.declared.error.FindError.TheVariants.{RoundLimit};
 
 use crate::error::FindError;
+use crate::watch::Watch;
 
 /// How many instructions are visited at most (own).
 pub const MOST_VISITS: u32 = 4_000_000;
@@ -15,6 +16,9 @@ pub const MOST_WORK: u32 = 400_000_000;
 /// How much with lists (own).
 pub const MOST_LIST_WORK: u32 = 100_000_000;
 
+/// How many visits are told together: a power of two, so that it takes little to see when they are made (own).
+const VISITS_TOLD: u32 = 1_024;
+
 /// What a search may do yet.
 #[derive(Clone, Copy)]
 pub(crate) struct Allowance {
@@ -24,8 +28,8 @@ pub(crate) struct Allowance {
     pub(crate) work: u32,
 }
 
-/// Counts a visit, if one is left.
-pub(crate) fn count_visit(left: &mut Allowance) -> Result<(), FindError>
+/// Counts a visit, if one is left. Where many were counted since, that is told.
+pub(crate) fn count_visit<W: Watch>(left: &mut Allowance, watch: &W) -> Result<(), FindError>
     ensures counted { OnOk result (left.new.visits + 1 ≡ left.old.visits) }
     ensures limit { IfErr result (λ error. (error ≡ RoundLimit) × (left.old.visits ≡ 0) × (left.new.visits ≡ 0)) }
     ensures work { left.new.work ≡ left.old.work }
@@ -33,6 +37,9 @@ pub(crate) fn count_visit(left: &mut Allowance) -> Result<(), FindError>
     match left.visits.checked_sub(1) {
         Some(fewer) => {
             left.visits = fewer;
+            if fewer % VISITS_TOLD == 0 {
+                watch.visited(VISITS_TOLD);
+            }
             Ok(())
         }
         None => Err(FindError::RoundLimit),

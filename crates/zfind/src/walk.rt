@@ -19,6 +19,7 @@ use crate::openings::open_written;
 use crate::queue::Queue;
 use crate::state::{Plan, State};
 use crate::visits::{Allowance, count_more, count_visit, count_work};
+use crate::watch::Watch;
 use std::alloc::{AllocError, Global};
 use zruns::{Room, Tables};
 
@@ -138,7 +139,11 @@ impl<'a, V: Kind> Walk<'a, V> {
     /// Walks until nothing more is found, as far as is allowed. What looks where bytes were opened is visited once more when nothing else
     /// is left. Tables are made once, and say what they say but for what was opened since. A function of its own, since they lie on the stack.
     #[inline(never)]
-    pub(crate) fn grow(&mut self, left: &mut Allowance) -> Result<(), FindError>
+    pub(crate) fn grow<W: Watch>(
+        &mut self,
+        left: &mut Allowance,
+        watch: &W,
+    ) -> Result<(), FindError>
         ensures less { IsLess left.new left.old }
         ensures stopped { IfErr result (IsStopped left.new) }
     {
@@ -146,21 +151,22 @@ impl<'a, V: Kind> Walk<'a, V> {
         let mut room = Room::new();
         let tables = Tables::new(self.code.story, &ranges, &mut room);
         let mut opened = Opened::new(self.alloc);
-        self.run_rounds(&tables, &mut opened, left)
+        self.run_rounds(&tables, &mut opened, left, watch)
     }
 
     /// Walks by rounds: the first visit of each is made here, and the others by `run`.
-    fn run_rounds(
+    fn run_rounds<W: Watch>(
         &mut self,
         tables: &Tables<'_>,
         opened: &mut Opened,
         left: &mut Allowance,
+        watch: &W,
     ) -> Result<(), FindError>
         ensures less { IsLess left.new left.old }
         ensures stopped { IfErr result (IsStopped left.new) }
     {
         while let Some(index) = self.queue.next() {
-            count_visit(left)?;
+            count_visit(left, watch)?;
             self.queue.remove_next();
             self.note_opened(opened)?;
             let known = Known {
@@ -168,19 +174,24 @@ impl<'a, V: Kind> Walk<'a, V> {
                 opened: &*opened,
             };
             self.visit(known, index, left)?;
-            self.run(known, left)?;
+            self.run(known, left, watch)?;
             self.wake_more()?;
         }
         Ok(())
     }
 
     /// Visits instructions until none is left.
-    fn run(&mut self, known: Known<'_, '_, '_>, left: &mut Allowance) -> Result<(), FindError>
+    fn run<W: Watch>(
+        &mut self,
+        known: Known<'_, '_, '_>,
+        left: &mut Allowance,
+        watch: &W,
+    ) -> Result<(), FindError>
         ensures less { IsLess left.new left.old }
         ensures stopped { IfErr result (IsStopped left.new) }
     {
         while let Some(index) = self.queue.next() {
-            count_visit(left)?;
+            count_visit(left, watch)?;
             self.queue.remove_next();
             self.visit(known, index, left)?;
         }
