@@ -1,6 +1,7 @@
 //! Listings of more than a story lists: with routines that are called through a variable alone.
 
 use crate::code::{Code, short};
+use crate::numbered::{is_marked, mark};
 use std::alloc::{AllocError, Global};
 use zcode::{Destination, Instr, Operand, Operation, decode, decode_by};
 use zlist::{Listing, Record};
@@ -297,18 +298,6 @@ impl<'a> Places<'a> {
         }
         Ok(records)
     }
-}
-
-/// Marks an address.
-fn mark(marks: &mut Vec<bool>, address: usize) {
-    if let Some(mark) = marks.get_mut(address) {
-        *mark = true;
-    }
-}
-
-/// Whether an address is marked.
-fn is_marked(marks: &[bool], address: usize) -> bool {
-    marks.get(address).copied().unwrap_or(false)
 }
 
 /// Whether an instruction names no local behind so many.

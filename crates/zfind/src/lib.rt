@@ -3,6 +3,7 @@
 //! `find` walks over what a story lists, and keeps for each place a set of the values of each local and slot, as it does for each global
 //! and for what each routine gives. These are intervals, and where they lead to no certificate lists as well. What it answers was accepted
 //! by the checker. `find_limited` answers one that names a limit of frames, and `find_marked` one that may mark instructions besides.
+//! A search may take long: a `Watch` is told how far it is.
 #![tactic(auto)]
 
 mod bytes;
@@ -21,6 +22,7 @@ mod limited;
 mod looking;
 mod marking;
 mod narrowing;
+mod numbered;
 mod obstacles;
 mod opened;
 mod openings;

@@ -14,6 +14,7 @@ use crate::frame::Frame;
 use crate::groups::Groups;
 use crate::kind::Kind;
 use crate::looking::{Known, Seen, followed_by, look};
+use crate::numbered::{is_marked, mark};
 use crate::opened::Opened;
 use crate::openings::open_written;
 use crate::queue::Queue;
@@ -265,7 +266,7 @@ impl<'a, V: Kind> Walk<'a, V> {
         self.spend(usize::from(self.routine_count()).saturating_mul(3));
         let waiting = self.waiting_routines()?;
         for below in 0..self.routine_count() {
-            if !is_marked(&waiting, below + 1) {
+            if !is_marked(&waiting, usize::from(below) + 1) {
                 self.end_routine(below + 1, given)?;
             }
         }
@@ -787,16 +788,4 @@ impl<'a, V: Kind> Walk<'a, V> {
             _ => false,
         }
     }
-}
-
-/// Marks what has a number.
-fn mark(marks: &mut Vec<bool>, number: usize) {
-    if let Some(mark) = marks.get_mut(number) {
-        *mark = true;
-    }
-}
-
-/// Whether what has a number is marked.
-fn is_marked(marks: &[bool], number: u16) -> bool {
-    marks.get(usize::from(number)).copied().unwrap_or(false)
 }
