@@ -1,0 +1,12 @@
+mod Ascii
+pub mod Cuts
+pub mod Going
+pub mod Lasts
+mod Printable
+pub mod Series
+pub mod Tags
+mod Worked
+mod WorkedFiles
+mod WorkedPlaces
+mod WorkedRecords
+mod WorkedTelling

@@ -1,0 +1,58 @@
+-- Values of the definitions, computed: what is told of an address and of a variable, and of a file that is refused.
+use Rattle.std.proofs.Common.{◌≡◌, ℕ, Bool, true, cond, List, [], ◌∷◌, None, Some, Ok, Err, length, refl, ap}
+use Rattle.std.specs.Fmt.{digits}
+use Rattle.std.specs.Prelude.{codes, nat_lt}
+use Rattle.zdebug.specs.Records.{Found, nothing}
+use Rattle.zdebug.specs.Reading.{file_reading, reading}
+use Rattle.zdebug.specs.Refusal.{number_of}
+use Rattle.zdebug.specs.Shown.{shown}
+use Rattle.zdebug.specs.Telling.{source_text, spot_text, variable_text}
+use Rattle.zdebug.specs.declared.error.DebugError.TheVariants as errors
+use Rattle.zdebug.specs.declared.info.TheConstants.{FILE_LIMIT}
+
+-- ---- names
+
+-- with a backslash, with bytes that aren't printed, with those of a code that clears a screen, and none
+names : (shown (codes "JettyEnter") ≡ codes "JettyEnter") × (shown (92 ∷ 0 ∷ 32 ∷ 126 ∷ 127 ∷ 255 ∷ []) ≡ codes "\\x5c\\x00 ~\\x7f\\xff") × (shown (27 ∷ codes "[2J") ≡ codes "\\x1b[2J") × (shown [] ≡ [])
+names = (refl, refl, refl, refl)
+
+-- ---- places
+
+spots : (spot_text (record { file = codes "jetty.inf"; line = 120; routine = codes "JettyEnter" }) ≡ codes "jetty.inf:120, JettyEnter") × (spot_text (record { file = 7 ∷ []; line = 4294967295; routine = 10 ∷ [] }) ≡ codes "\\x07:4294967295, \\x0a")
+unfolding digits
+spots = (refl, refl)
+
+abbrev said : Found
+said = record nothing {
+  sources = (0, codes "jetty.inf") ∷ [];
+  routines = (16, record { length = 8; name = codes "JettyEnter" }) ∷ [];
+  points = (17, record { file = 0; line = 120 }) ∷ [];
+  globals = (100, codes "first") ∷ (134, codes "noun") ∷ (578, codes "last") ∷ (580, codes "past") ∷ [];
+  first_global = Some 100;
+}
+
+-- in front of the first point of its routine, at it, at the last byte, and behind
+places : (source_text said 16 ≡ None) × (source_text said 17 ≡ Some (codes "jetty.inf:120, JettyEnter")) × (source_text said 23 ≡ Some (codes "jetty.inf:120, JettyEnter")) × (source_text said 24 ≡ None)
+unfolding digits
+places = (refl, refl, refl, refl)
+
+-- ---- variables
+
+-- the stack and a local, the first global, one in the middle, one without a name, and the last
+variables : (variable_text said 0 ≡ None) × (variable_text said 15 ≡ None) × (variable_text said 16 ≡ Some (codes "first (global 0)")) × (variable_text said 33 ≡ Some (codes "noun (global 17)")) × (variable_text said 34 ≡ None) × (variable_text said 255 ≡ Some (codes "last (global 239)"))
+unfolding digits
+variables = (refl, refl, refl, refl, refl, refl)
+
+-- ---- files that are refused
+
+limit : FILE_LIMIT ≡ 16777216
+limit = refl
+
+too_long : (bytes : List ℕ) → nat_lt 16777216 (length bytes) ≡ true → file_reading bytes ≡ Err errors.TooLong
+too_long bytes h = ap (λ (b : Bool). cond b (Err errors.TooLong) (reading bytes)) h
+
+short : (file_reading [] ≡ Err errors.NotDebug) × (file_reading (codes "<inform-story-file version=\"1.0\"/>") ≡ Ok nothing)
+short = (refl, refl)
+
+numbers : (number_of errors.TooLong ≡ 1) × (number_of errors.NotDebug ≡ 2) × (number_of errors.Incomplete ≡ 9) × (number_of errors.OutOfMemory ≡ 10)
+numbers = (refl, refl, refl, refl)

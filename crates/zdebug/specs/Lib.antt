@@ -1,0 +1,12 @@
+pub mod Steps
+pub mod Cutting
+pub mod Words
+pub mod Elements
+pub mod Records
+pub mod Reading
+pub mod Places
+pub mod Spots
+pub mod View
+pub mod Shown
+pub mod Telling
+pub mod Refusal

@@ -1,0 +1,24 @@
+-- Bytes that needn't be text, as text (own).
+use Rattle.std.specs.Prelude.{ℕ, ◌/◌, ◌%◌, ◌==◌, ◌&&◌, Bool, not, nat_le, nat_lt, if◌then◌else◌, List, [], ◌∷◌, codes, flat_map, slice_index}
+
+-- the lower-case hexadecimal digit of a number below 16
+abbrev pub hex_digit : ℕ → ℕ
+hex_digit n = slice_index (codes "0123456789abcdef") n
+
+-- a printable character of ASCII but the backslash
+abbrev pub is_plain : ℕ → Bool
+is_plain byte = nat_le 32 byte && nat_le byte 126 && not (byte == 92)
+
+-- itself, or `\x` and two digits
+abbrev pub shown_byte : ℕ → List ℕ
+shown_byte byte = if is_plain byte then byte ∷ [] else 92 ∷ 120 ∷ hex_digit (byte / 16) ∷ hex_digit (byte % 16) ∷ []
+
+abbrev pub shown : List ℕ → List ℕ
+shown bytes = flat_map shown_byte bytes
+
+abbrev pub is_byte : ℕ → Bool
+is_byte n = nat_lt n 256
+
+-- what takes one place of a line, and moves no cursor
+abbrev pub is_printable : ℕ → Bool
+is_printable byte = nat_le 32 byte && nat_le byte 126

@@ -1,0 +1,25 @@
+//! Inform 6's debug information (`gameinfo.dbg`): the line of the source and the routine of an address, and names.
+#![tactic(auto)]
+
+mod cutting;
+mod draft;
+mod element;
+mod error;
+mod info;
+mod laws;
+mod lookup;
+mod path;
+mod place;
+mod reader;
+mod reading;
+mod records;
+mod shown;
+mod tag;
+mod telling;
+mod text;
+
+pub use error::DebugError;
+pub use info::{DebugInfo, FILE_LIMIT};
+pub use laws::shown_names_are_printable;
+pub use place::Place;
+pub use telling::{source_text, variable_text};
