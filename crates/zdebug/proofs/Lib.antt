@@ -1,5 +1,6 @@
 mod Ascii
 pub mod Cuts
+pub mod Escaped
 pub mod Going
 pub mod Lasts
 mod Printable

@@ -1,5 +1,5 @@
 -- Bytes that needn't be text, as text (own).
-use Rattle.std.specs.Prelude.{ℕ, ◌/◌, ◌%◌, ◌==◌, ◌&&◌, Bool, not, nat_le, nat_lt, if◌then◌else◌, List, [], ◌∷◌, codes, flat_map, slice_index}
+use Rattle.std.specs.Prelude.{ℕ, ◌/◌, ◌%◌, ◌==◌, ◌&&◌, ◌||◌, Bool, not, nat_le, nat_lt, if◌then◌else◌, List, [], ◌∷◌, codes, flat_map, slice_index}
 
 -- the lower-case hexadecimal digit of a number below 16
 abbrev pub hex_digit : ℕ → ℕ
@@ -15,6 +15,13 @@ shown_byte byte = if is_plain byte then byte ∷ [] else 92 ∷ 120 ∷ hex_digi
 
 abbrev pub shown : List ℕ → List ℕ
 shown bytes = flat_map shown_byte bytes
+
+-- in a string of JSON (RFC 8259, section 7), where a quotation mark and a backslash have a backslash in front
+abbrev pub escaped_byte : ℕ → List ℕ
+escaped_byte byte = if byte == 34 || byte == 92 then 92 ∷ byte ∷ [] else byte ∷ []
+
+abbrev pub escaped : List ℕ → List ℕ
+escaped bytes = flat_map escaped_byte bytes
 
 abbrev pub is_byte : ℕ → Bool
 is_byte n = nat_lt n 256

@@ -10,32 +10,32 @@ use thiserror::Error;
 #[derive(Clone, Copy, Debug, PartialEq, Eq, Error)]
 #[error("{}", self.text())]
 pub enum DebugError {
-    /// D1: the file is longer than [`FILE_LIMIT`](crate::FILE_LIMIT) bytes.
+    /// B1: the file is longer than [`FILE_LIMIT`](crate::FILE_LIMIT) bytes.
     TooLong,
-    /// D2: what stands in front of the first tag isn't blank, or the outermost element isn't `inform-story-file`, or there is none.
+    /// B2: what stands in front of the first tag isn't blank, or the outermost element isn't `inform-story-file`, or there is none.
     NotDebug,
-    /// D3: a version other than 1.0 and 1.1, or none.
+    /// B3: a version other than 1.0 and 1.1, or none.
     Version,
-    /// D4: a `<` with a blank or a `>` behind it, or with no `>` before the next `<`; or a tag that begins with `<!`.
+    /// B4: a `<` with a blank or a `>` behind it, or with no `>` before the next `<`; or a tag that begins with `<!`.
     Tag,
-    /// D5: an end of an element that isn't the innermost open one, or an element behind the outermost one.
+    /// B5: an end of an element that isn't the innermost open one, or an element behind the outermost one.
     Misplaced,
-    /// D6: the file ends within an element.
+    /// B6: the file ends within an element.
     Unclosed,
-    /// D7: what is no decimal number below 2 ^ 32 (with blanks in front, and none behind), where one has to stand.
+    /// B7: what is no decimal number below 2 ^ 32 (with blanks in front, and none behind), where one has to stand.
     NotNumber,
-    /// D8: a `&` that begins none of the five entities.
+    /// B8: a `&` that begins none of the five entities.
     Entity,
-    /// D9: a record that lacks its name, its number, or another part.
+    /// B9: a record that lacks its name, its number, or another part.
     Incomplete,
-    /// D10: a growth was refused.
+    /// B10: a growth was refused.
     OutOfMemory,
 }
 
 impl DebugError {
     ghost use Rattle.zdebug.specs.Refusal.{number_of};
 
-    /// The number after the `D` of its code.
+    /// The number after the `B` of its code.
     pub fn number(self) -> u8
         ensures { result ≡ number_of self }
     {
