@@ -5,6 +5,7 @@ pub mod Going
 pub mod Lasts
 mod Printable
 pub mod Series
+mod Strings
 pub mod Tags
 mod Worked
 mod WorkedFiles

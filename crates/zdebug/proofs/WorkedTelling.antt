@@ -1,11 +1,11 @@
 -- Values of the definitions, computed: what is told of an address and of a number, and of a file that is refused.
-use Rattle.std.proofs.Common.{◌≡◌, ℕ, Bool, true, cond, List, [], ◌∷◌, None, Some, Ok, Err, length, refl, ap}
+use Rattle.std.proofs.Common.{◌≡◌, ℕ, Bool, true, false, cond, List, [], ◌∷◌, None, Some, Ok, Err, length, refl, ap}
 use Rattle.std.specs.Fmt.{digits}
 use Rattle.std.specs.Prelude.{codes, nat_lt}
 use Rattle.zdebug.specs.Records.{Found, nothing}
 use Rattle.zdebug.specs.Reading.{file_reading, reading}
 use Rattle.zdebug.specs.Refusal.{number_of}
-use Rattle.zdebug.specs.Shown.{escaped, shown}
+use Rattle.zdebug.specs.Shown.{escaped, is_string, shown}
 use Rattle.zdebug.specs.Telling.{name_text, source_object, source_text, spot_object, spot_text}
 use Rattle.zdebug.specs.declared.error.DebugError.TheVariants as errors
 use Rattle.zdebug.specs.declared.info.TheConstants.{FILE_LIMIT}
@@ -20,6 +20,10 @@ names = (refl, refl, refl, refl)
 -- in a string of JSON: a quotation mark, a backslash, which is shown in four characters, and a byte that isn't ASCII
 strings : (escaped (shown (codes "\"Basin\"")) ≡ codes "\\\"Basin\\\"") × (escaped (shown (92 ∷ [])) ≡ codes "\\\\x5c") × (escaped (shown (200 ∷ [])) ≡ codes "\\\\xc8") × (escaped (shown []) ≡ [])
 strings = (refl, refl, refl, refl)
+
+-- what a string of JSON can be, with both escapes; and with a bare quotation mark, another escape, an end behind a backslash, and a byte that isn't printed
+quoted : (is_string false (codes "a\\\"b\\\\") ≡ true) × (is_string false (codes "a\"b") ≡ false) × (is_string false (codes "\\n") ≡ false) × (is_string false (codes "a\\") ≡ false) × (is_string false (10 ∷ []) ≡ false) × (is_string false [] ≡ true)
+quoted = (refl, refl, refl, refl, refl, refl)
 
 -- ---- places
 

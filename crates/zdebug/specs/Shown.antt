@@ -1,5 +1,5 @@
 -- Bytes that needn't be text, as text (own).
-use Rattle.std.specs.Prelude.{ℕ, ◌/◌, ◌%◌, ◌==◌, ◌&&◌, ◌||◌, Bool, not, nat_le, nat_lt, if◌then◌else◌, List, [], ◌∷◌, codes, flat_map, slice_index}
+use Rattle.std.specs.Prelude.{ℕ, ◌/◌, ◌%◌, ◌==◌, ◌&&◌, ◌||◌, Bool, true, false, not, nat_le, nat_lt, if◌then◌else◌, List, [], ◌∷◌, codes, flat_map, slice_index}
 
 -- the lower-case hexadecimal digit of a number below 16
 abbrev pub hex_digit : ℕ → ℕ
@@ -29,3 +29,10 @@ is_byte n = nat_lt n 256
 -- what takes one place of a line, and moves no cursor
 abbrev pub is_printable : ℕ → Bool
 is_printable byte = nat_le 32 byte && nat_le byte 126
+
+-- what stands in a string of JSON, of printable ASCII: the next character follows a backslash, or it doesn't. Of the escapes of JSON those two are
+-- taken
+abbrev pub is_string : Bool → List ℕ → Bool
+is_string after [] = not after
+is_string true (byte ∷ bytes) = (byte == 34 || byte == 92) && is_string false bytes
+is_string false (byte ∷ bytes) = if byte == 92 then is_string true bytes else is_printable byte && not (byte == 34) && is_string false bytes

@@ -21,7 +21,7 @@ mod text;
 
 pub use error::DebugError;
 pub use info::{DebugInfo, FILE_LIMIT};
-pub use laws::shown_names_are_printable;
+pub use laws::{escaped_names_are_strings, shown_names_are_printable};
 pub use naming::Named;
 pub use place::Place;
 pub use telling::{name_text, source_object, source_text};
