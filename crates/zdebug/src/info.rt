@@ -38,8 +38,8 @@ impl DebugInfo {
     ///
     /// # Errors
     ///
-    /// [`DebugError::TooLong`] of more than [`FILE_LIMIT`] bytes. Else the first thing that is wrong, as the file is gone through once: a text is judged where its element ends, and a record where it
-    /// ends. [`DebugError::OutOfMemory`] where a growth was refused.
+    /// [`DebugError::TooLong`] of more than [`FILE_LIMIT`] bytes. Else the first thing that is wrong, as the file is gone through once: a
+    /// text is judged where its element ends, and a record where it ends. [`DebugError::OutOfMemory`] where a growth was refused.
     pub fn read(alloc: Global, bytes: &[u8]) -> Result<DebugInfo, DebugError>
         ensures { Answers (λ i. i) result (file_reading bytes.now) }
     {
