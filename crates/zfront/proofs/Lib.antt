@@ -1,3 +1,4 @@
+pub mod Cuts
 pub mod Determined
 pub mod Ending
 pub mod Feeding

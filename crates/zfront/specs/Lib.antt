@@ -5,7 +5,11 @@ pub mod Owed
 pub mod ReadAhead
 pub mod Records
 pub mod Screens
+pub mod Sourced
+pub mod SourcedSinks
 pub mod Sources
+pub mod Told
+pub mod ToldLines
 pub mod Turns
 pub mod WrappedSinks
 pub mod WrappedText

@@ -84,7 +84,7 @@ impl Ahead {
 }
 
 /// How long the line at the front is, with its end, or all where no line ends; of that as much as goes into so much room.
-fn line_length(held: &[u8], room: usize) -> usize
+pub(crate) fn line_length(held: &[u8], room: usize) -> usize
     ensures count { result ≡ length (line_within room held.now) }
     ensures held { result ≤ length held.now }
     ensures fits { result ≤ room }
