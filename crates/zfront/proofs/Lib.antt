@@ -3,9 +3,11 @@ pub mod Determined
 pub mod Ending
 pub mod Feeding
 pub mod Flushing
+pub mod Lines
 pub mod Lining
 pub mod Sinking
 pub mod Taking
+pub mod Tellings
 mod WorkedLines
 mod WorkedRecords
 mod WorkedScreens

@@ -93,10 +93,10 @@ words_told known [] = []
 words_told known (word ∷ []) = word ∷ []
 words_told known (word ∷ next ∷ rest) = told_or (pair_told known word next) word (words_told known rest) (words_told known (next ∷ rest))
 
--- the place of the address that a line begins with, if a space stands behind it
-abbrev pub own_place : Known → List (List ℕ) → Option (List ℕ)
-own_place known (word ∷ next ∷ rest) = if length word == 5 then option_and_then known.place (address_at word) else None
-own_place known _ = None
+-- the address that a line begins with, if a space stands behind it
+abbrev pub own_address : List (List ℕ) → Option ℕ
+own_address (word ∷ next ∷ rest) = if length word == 5 then address_at word else None
+own_address _ = None
 
 -- a place in brackets, if there is one
 abbrev pub bracketed_place : Option (List ℕ) → List ℕ
@@ -105,14 +105,17 @@ bracketed_place (Some place) = bracketed place
 
 -- a line that is no object, without its end
 abbrev pub text_told : Known → List ℕ → List ℕ
-text_told known line = join_with_byte 32 (words_told known (parts 32 line)) ++ bracketed_place (own_place known (parts 32 line))
+text_told known line = join_with_byte 32 (words_told known (parts 32 line)) ++ bracketed_place (option_and_then known.place (own_address (parts 32 line)))
 
 -- ---- objects of JSON
 
 -- `"address":"00387"`, which begins a part between commas (44) or stands behind a brace (123) that does
+abbrev pub is_member : List ℕ → Bool
+is_member part = bytes_eq (take 11 part) (codes "\"address\":\"") && begins_with (λ byte. byte == 34) (drop 16 part)
+
+-- its place
 abbrev pub member_place : Known → List ℕ → Option (List ℕ)
-member_place known part =
-    if bytes_eq (take 11 part) (codes "\"address\":\"") && begins_with (λ byte. byte == 34) (drop 16 part) then option_and_then known.object (address_at (drop 11 part)) else None
+member_place known part = if is_member part then option_and_then known.object (address_at (drop 11 part)) else None
 
 abbrev pub with_source : List ℕ → Option (List ℕ) → List ℕ
 with_source part None = part
@@ -131,8 +134,8 @@ object_told known line = join_with_byte 44 (map (member_told known) (parts 44 li
 -- ---- lines
 
 -- a line, without its end
-abbrev pub told : Known → List ℕ → List ℕ
-told known line = if begins_with (λ byte. byte == 123) line then object_told known line else text_told known line
+abbrev pub body_told : Known → List ℕ → List ℕ
+body_told known line = if begins_with (λ byte. byte == 123) line then object_told known line else text_told known line
 
 -- where a line ends
 abbrev pub is_end : ℕ → Bool
@@ -143,4 +146,4 @@ end_of line = position_or_len is_end line
 
 -- a line with its end, if it has one
 abbrev pub line_told : Known → List ℕ → List ℕ
-line_told known line = told known (take (end_of line) line) ++ drop (end_of line) line
+line_told known line = body_told known (take (end_of line) line) ++ drop (end_of line) line

@@ -8,9 +8,13 @@ abbrev pub left_parts : Option (List ℕ) → List (List ℕ)
 left_parts None = []
 left_parts (Some line) = parts 32 line
 
--- they are told
+-- words, told in a row
+abbrev pub words_joined : Known → List (List ℕ) → List ℕ
+words_joined known words = join_with_byte 32 (words_told known words)
+
+-- those behind one
 abbrev pub left_told : Known → Option (List ℕ) → List ℕ
-left_told known left = join_with_byte 32 (words_told known (left_parts left))
+left_told known left = words_joined known (left_parts left)
 
 -- and how much they are
 abbrev pub left_length : Option (List ℕ) → ℕ

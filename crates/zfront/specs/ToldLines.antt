@@ -25,13 +25,15 @@ pub record Holds (known : Known) (old new : Option (List ℕ)) (before after : U
   pub grown : Appends old new before.decided
   pub line : IsOneLine piece
   pub whole : before.passing ≡ false
-  pub after : after ≡ holding known before.held piece
+  pub state : after ≡ holding known before.held piece
 
 -- Its line goes out as it is: what was decided, what was held and the piece were given out.
 pub record LetsPass (old new : Option (List ℕ)) (before after : Untold) (piece : List ℕ) : Type 0 where
   pub grown : Appends old new (before.decided ++ before.held ++ piece)
   pub line : IsOneLine piece
-  pub after : after ≡ record { decided = []; held = []; passing = not (list_any is_end piece) }
+  pub decided : after.decided ≡ []
+  pub held : after.held ≡ []
+  pub passing : after.passing ≡ not (list_any is_end piece)
 
 -- a piece was taken
 abbrev pub TakesPiece : Known → Option (List ℕ) → Option (List ℕ) → Untold → Untold → List ℕ → Type 0

@@ -2,7 +2,7 @@
 
 ghost use Rattle.std.specs.Prelude.{◌≡◌, ◌++◌, IfOk, OnOk, string_bytes};
 ghost use Rattle.std.specs.Option.{option_map};
-ghost use Rattle.zfront.specs.Sourced.{known_of, member_place, member_told, object_told, with_source};
+ghost use Rattle.zfront.specs.Sourced.{is_member, known_of, member_place, member_told, object_told, with_source};
 
 use crate::cutting::{behind, cut, front, is};
 use crate::digits::{address_at, begins_with};
@@ -17,11 +17,18 @@ const ADDRESS_AT: usize = 11;
 const QUOTE_AT: usize = 16;
 const MEMBER_END: usize = 17;
 
+/// Whether a part begins with the member of an address.
+fn is_member(part: &[u8]) -> bool
+    ensures { result ≡ is_member part.now }
+{
+    is(front(part, ADDRESS_AT), MEMBER) && begins_with(behind(part, QUOTE_AT), b'"')
+}
+
 /// The place of the member of an address, as an object.
 fn member_place(alloc: Global, info: &DebugInfo, part: &[u8]) -> Result<Option<String>, AllocError>
     ensures { IfOk result (λ object. option_map string_bytes object ≡ member_place (known_of info.now) part.now) }
 {
-    if !is(front(part, ADDRESS_AT), MEMBER) || !begins_with(behind(part, QUOTE_AT), b'"') {
+    if !is_member(part) {
         return Ok(None);
     }
     match address_at(behind(part, ADDRESS_AT)) {
@@ -69,6 +76,7 @@ fn push_member(
 }
 
 /// Adds an object, told.
+#[tactic(auto, using(crate::proofs::Lines::object_uncut, crate::proofs::Lines::object_cut))]
 pub(crate) fn push_object(
     alloc: Global,
     info: &DebugInfo,

@@ -31,7 +31,7 @@ impl<'a, 'i, W> Sourced<'a, 'i, W> {
     ) -> Sourced<'a, 'i, W>
         ensures reference { below_name result ≡ below.entry.ghost_name }
         ensures below { below_of result ≡ below.old }
-        ensures known { known_to result ≡ option_map known_of (option_copied info) }
+        ensures known { known_to result ≡ option_map known_of (option_copied info.entry) }
         ensures untold { untold_of result ≡ nothing_untold }
     {
         match info {

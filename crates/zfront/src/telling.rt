@@ -1,7 +1,7 @@
 //! What is told of the source in a line.
 
 ghost use Rattle.std.specs.Prelude.{◌≡◌, ◌≤◌, ◌++◌, IfOk, OnOk, length};
-ghost use Rattle.zfront.specs.Sourced.{end_of, known_of, line_told, told};
+ghost use Rattle.zfront.specs.Sourced.{end_of, known_of, body_told, line_told};
 
 use crate::cutting::place_of;
 use crate::digits::begins_with;
@@ -17,7 +17,7 @@ fn push_told(
     line: &[u8],
     told: &mut Vec<u8>,
 ) -> Result<(), AllocError>
-    ensures { OnOk result (told.new.items ≡ told.old.items ++ told (known_of info.now) line.now) }
+    ensures { OnOk result (told.new.items ≡ told.old.items ++ body_told (known_of info.now) line.now) }
 {
     if begins_with(line, b'{') {
         push_object(alloc, info, line, told)
@@ -27,6 +27,7 @@ fn push_told(
 }
 
 /// Where a line ends.
+#[tactic(auto, using(crate::proofs::Lines::end_none, crate::proofs::Lines::end_some))]
 fn end_of(line: &[u8]) -> usize
     ensures end { result ≡ end_of line.now }
     ensures within { result ≤ length line.now }

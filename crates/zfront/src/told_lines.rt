@@ -51,6 +51,7 @@ impl<W: Sink> Sink for ToldLines<'_, '_, W> {
     ghost waits = { λ lines. lines_wait lines };
 
     /// Gives out what is decided, and takes the line at the front of the piece, or a beginning of one.
+    #[tactic(auto, using(crate::proofs::Tellings::takes_none, crate::proofs::Tellings::takes_piece))]
     fn write(&mut self, piece: &[u8]) -> Result<usize, Failed>
         ensures bound { IfOk result (λ count. count ≤ length piece.now) }
         ensures takes { IfOk result (λ count. 0 < length piece.now → 0 < count) }
@@ -73,6 +74,7 @@ impl<W: Sink> Sink for ToldLines<'_, '_, W> {
     }
 
     /// Gives out all that was taken, what is held of a line too, and hands it on.
+    #[tactic(auto, using(crate::proofs::Tellings::settles))]
     fn flush(&mut self) -> Result<(), Failed>
         ensures bytes { Keeps None None }
         ensures through { HandsOn (lines_wait self.old) (lines_wait self.new) result }
@@ -92,6 +94,7 @@ impl<W: Sink> Sink for ToldLines<'_, '_, W> {
 
 impl<W: Sink> ToldLines<'_, '_, W> {
     /// Takes the line at the front of the piece, or a beginning of one, where nothing decided is left.
+    #[tactic(auto, using(crate::proofs::Tellings::holds, crate::proofs::Tellings::line_some))]
     fn take(&mut self, piece: &[u8]) -> Result<usize, Failed>
         requires nothing_decided { (lines_untold self.old).decided ≡ [] }
         requires some { 0 < length piece.now }
@@ -104,12 +107,13 @@ impl<W: Sink> ToldLines<'_, '_, W> {
         ensures ok { IfOk result (λ count. TakesPiece (lines_known self.old) (W.contents (lines_below self.old)) (W.contents (lines_below self.new)) (lines_untold self.old) (lines_untold self.new) (take count piece.now)) }
         ensures err { OnErr result (GivesHeld (W.contents (lines_below self.old)) (W.contents (lines_below self.new)) (lines_untold self.old) (lines_untold self.new)) }
     {
-        if !self.untold.is_passing() {
-            if let Ok(count) = self.untold.hold(self.alloc, self.info, piece) {
-                return Ok(count);
-            }
+        if self.untold.is_passing() {
+            return self.pass(piece);
         }
-        self.pass(piece)
+        match self.untold.hold(self.alloc, self.info, piece) {
+            Ok(count) => Ok(count),
+            Err(_) => self.pass(piece),
+        }
     }
 
     /// Lets the line at the front of the piece, or a beginning of one, go out as it is.

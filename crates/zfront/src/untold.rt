@@ -1,6 +1,6 @@
 //! What a sink that tells the source's lines has taken and hasn't given out.
 
-ghost use Rattle.std.specs.Prelude.{◌≡◌, ◌++◌, [], true, IfOk, OnErr, OnOk, not, take, length, ◌⊎◌};
+ghost use Rattle.std.specs.Prelude.{◌≡◌, ◌≤◌, ◌++◌, [], false, true, IfOk, OnErr, OnOk, not, take, length, ◌⊎◌};
 ghost use Rattle.std.specs.List.{list_any};
 ghost use Rattle.std.specs.Io.BufRead.{take_through};
 ghost use Rattle.std.specs.Io.KnownBytes.{Appends};
@@ -85,6 +85,7 @@ impl Untold {
         requires nothing_decided { self.old.decided ≡ [] }
         requires telling { self.old.passing ≡ false }
         ensures count { IfOk result (λ count. count ≡ length (take_through 10 piece.now)) }
+        ensures within { IfOk result (λ count. count ≤ length piece.now) }
         ensures held { IfOk result (λ count. self.new ≡ holding (known_of info.now) self.old.held (take count piece.now)) }
         ensures kept { OnErr result (self.new ≡ self.old) }
     {

@@ -1,10 +1,10 @@
 //! What is told of the words of a line.
 
-ghost use Rattle.std.specs.Prelude.{◌≡◌, ◌<◌, ◌≤◌, ◌++◌, ◌∷◌, codes, IfOk, OnOk, Some, drop, length, option_copied, string_bytes, take};
+ghost use Rattle.std.specs.Prelude.{◌≡◌, ◌<◌, ◌≤◌, ◌++◌, ◌∷◌, ◌+◌, ◌==◌, codes, if◌then◌else◌, IfOk, None, OnOk, Some, drop, length, option_copied, string_bytes, take};
 ghost use Rattle.std.specs.List.{prefix_len, take_while};
 ghost use Rattle.std.specs.Option.{option_and_then, option_map};
-ghost use Rattle.zfront.specs.Sourced.{bracketed, is_digit, kind_of, known_of, named, own_place, pair_told, parts, placed, text_told};
-ghost use Rattle.zfront.specs.Told.{left_length, left_parts, left_told, space_before};
+ghost use Rattle.zfront.specs.Sourced.{address_at, bracketed, is_digit, kind_of, known_of, named, number_at, own_address, pair_told, parts, placed, text_told};
+ghost use Rattle.zfront.specs.Told.{left_length, left_parts, left_told, space_before, words_joined};
 
 use crate::cutting::{behind, cut, front, is};
 use crate::digits::{ADDRESS_DIGITS, address_at, digits, number_at};
@@ -38,11 +38,15 @@ fn push_bracketed(text: &[u8], told: &mut Vec<u8>) -> Result<(), AllocError>
     Ok(())
 }
 
-/// The place of the address in front of a word.
-fn place_at(alloc: Global, info: &DebugInfo, word: &[u8]) -> Result<Option<String>, AllocError>
-    ensures { IfOk result (λ place. option_map string_bytes place ≡ option_and_then (known_of info.now).place (address_at word.now)) }
+/// The place of an address, if there is one.
+fn place_of(
+    alloc: Global,
+    info: &DebugInfo,
+    address: Option<u32>,
+) -> Result<Option<String>, AllocError>
+    ensures { IfOk result (λ place. option_map string_bytes place ≡ option_and_then (known_of info.now).place address) }
 {
-    match address_at(word) {
+    match address {
         None => Ok(None),
         Some(address) => source_text(alloc, info, address),
     }
@@ -52,7 +56,7 @@ fn place_at(alloc: Global, info: &DebugInfo, word: &[u8]) -> Result<Option<Strin
 fn placed(alloc: Global, info: &DebugInfo, word: &[u8]) -> Result<Option<Vec<u8>>, AllocError>
     ensures { IfOk result (λ told. option_map (λ v. v.items) told ≡ placed (known_of info.now) word.now) }
 {
-    match place_at(alloc, info, word)? {
+    match place_of(alloc, info, address_at(word))? {
         None => Ok(None),
         Some(place) => Ok(Some(word_placed(alloc, word, place.as_bytes())?)),
     }
@@ -149,7 +153,7 @@ fn first_word(line: &[u8]) -> (&[u8], Option<&[u8]>)
 
 /// Adds the space in front of what is left, if anything is.
 fn push_space(left: Option<&[u8]>, told: &mut Vec<u8>) -> Result<(), AllocError>
-    ensures { OnOk result (told.new.items ≡ told.old.items ++ space_before (option_copied left)) }
+    ensures { OnOk result (told.new.items ≡ told.old.items ++ space_before (option_copied left.entry)) }
 {
     if left.is_some() {
         told.push(b' ')?;
@@ -157,21 +161,18 @@ fn push_space(left: Option<&[u8]>, told: &mut Vec<u8>) -> Result<(), AllocError>
     Ok(())
 }
 
-/// Adds what is told of the first word, or of the first two, and answers what is left behind them.
-fn push_front<'a>(
+/// Adds what is told of a word and of the next one, or of it alone, and answers what is left behind that.
+#[tactic(auto, using(crate::proofs::Lines::front_one, crate::proofs::Lines::front_two))]
+fn push_pair<'a>(
     alloc: Global,
     info: &DebugInfo,
-    line: &'a [u8],
+    word: &[u8],
+    behind: &'a [u8],
     told: &mut Vec<u8>,
 ) -> Result<Option<&'a [u8]>, AllocError>
-    ensures given { IfOk result (λ left. told.old.items ++ left_told (known_of info.now) (Some line.now) ≡ told.new.items ++ left_told (known_of info.now) (option_copied left)) }
-    ensures shorter { IfOk result (λ left. left_length (option_copied left) < left_length (Some line.now)) }
+    ensures given { IfOk result (λ left. told.old.items ++ words_joined (known_of info.now) (word.now ∷ parts 32 behind.now) ≡ told.new.items ++ left_told (known_of info.now) (option_copied left)) }
+    ensures shorter { IfOk result (λ left. left_length (option_copied left) ≤ length behind.now + 1) }
 {
-    let (word, behind) = first_word(line);
-    let Some(behind) = behind else {
-        told.extend_from_slice(word)?;
-        return Ok(None);
-    };
     let (next, others) = first_word(behind);
     match pair_told(alloc, info, word, next)? {
         None => {
@@ -184,6 +185,27 @@ fn push_front<'a>(
             push_space(others, told)?;
             Ok(others)
         }
+    }
+}
+
+/// Adds what is told of the first word, or of the first two, and answers what is left behind them.
+#[tactic(auto, using(crate::proofs::Lines::front_last, crate::proofs::Lines::front_more))]
+fn push_front<'a>(
+    alloc: Global,
+    info: &DebugInfo,
+    line: &'a [u8],
+    told: &mut Vec<u8>,
+) -> Result<Option<&'a [u8]>, AllocError>
+    ensures given { IfOk result (λ left. told.old.items ++ left_told (known_of info.now) (Some line.now) ≡ told.new.items ++ left_told (known_of info.now) (option_copied left)) }
+    ensures shorter { IfOk result (λ left. left_length (option_copied left) < length line.now + 1) }
+{
+    let (word, behind) = first_word(line);
+    match behind {
+        None => {
+            told.extend_from_slice(word)?;
+            Ok(None)
+        }
+        Some(behind) => push_pair(alloc, info, word, behind, told),
     }
 }
 
@@ -203,15 +225,26 @@ fn push_words(
     Ok(())
 }
 
-/// The place of the address that a line begins with.
-fn own_place(alloc: Global, info: &DebugInfo, line: &[u8]) -> Result<Option<String>, AllocError>
-    ensures { IfOk result (λ place. option_map string_bytes place ≡ own_place (known_of info.now) (parts 32 line.now)) }
+/// The address that a line begins with.
+#[tactic(auto, using(crate::proofs::Lines::own_none, crate::proofs::Lines::own_some))]
+fn own_address(line: &[u8]) -> Option<u32>
+    ensures { result ≡ own_address (parts 32 line.now) }
 {
     let (word, behind) = first_word(line);
-    if behind.is_none() || word.len() != ADDRESS_DIGITS {
-        return Ok(None);
+    match behind {
+        None => None,
+        Some(_) => whole_address(word),
     }
-    place_at(alloc, info, word)
+}
+
+/// The address that a word is.
+fn whole_address(word: &[u8]) -> Option<u32>
+    ensures { result ≡ (if length word.now == 5 then address_at word.now else None) }
+{
+    if word.len() != ADDRESS_DIGITS {
+        return None;
+    }
+    address_at(word)
 }
 
 /// Adds a line that is no object, told.
@@ -223,7 +256,7 @@ pub(crate) fn push_text(
 ) -> Result<(), AllocError>
     ensures { OnOk result (told.new.items ≡ told.old.items ++ text_told (known_of info.now) line.now) }
 {
-    let own = own_place(alloc, info, line)?;
+    let own = place_of(alloc, info, own_address(line))?;
     push_words(alloc, info, line, told)?;
     if let Some(place) = own {
         push_bracketed(place.as_bytes(), told)?;
