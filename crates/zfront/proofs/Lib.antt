@@ -11,5 +11,7 @@ pub mod Tellings
 mod WorkedLines
 mod WorkedRecords
 mod WorkedScreens
+mod WorkedSourced
+mod WorkedToldLines
 mod WorkedTurns
 mod WorkedWrapping

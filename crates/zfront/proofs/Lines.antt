@@ -46,7 +46,7 @@ pub front_one : (known : Known) (old word behind next : List ℕ) (others : Opti
     → old ++ words_joined known (word ∷ parts 32 behind) ≡ ((old ++ word) ++ 32 ∷ []) ++ left_told known (Some behind)
 front_one known old word behind next others is none =
     let words : words_told known (word ∷ parts 32 behind) ≡ word ∷ words_told known (next ∷ left_parts others) =
-        ap (λ (ps : List (List ℕ)). words_told known (word ∷ ps)) is ∙ ap (λ (o : Option (List ℕ)). told_or o word (words_told known (left_parts others)) (words_told known (next ∷ left_parts others))) none in
+    ap (λ (ps : List (List ℕ)). words_told known (word ∷ ps)) is ∙ ap (λ (o : Option (List ℕ)). told_or o word (words_told known (left_parts others)) (words_told known (next ∷ left_parts others))) none in
     let back : words_told known (next ∷ left_parts others) ≡ words_told known (parts 32 behind) = ap (words_told known) (sym is) in
     ap (λ (ps : List (List ℕ)). old ++ join_with_byte 32 ps) (words ∙ ap (λ (ps : List (List ℕ)). word ∷ ps) back) ∙ ap (λ (l : List ℕ). old ++ l) (join_left known word (Some behind))
     ∙ sym (append_assoc old word (32 ∷ left_told known (Some behind))) ∙ sym (append_assoc (old ++ word) (32 ∷ []) (left_told known (Some behind)))
@@ -55,7 +55,7 @@ pub front_two : (known : Known) (old word behind next text : List ℕ) (others :
     → old ++ words_joined known (word ∷ parts 32 behind) ≡ ((old ++ text) ++ space_before others) ++ left_told known others
 front_two known old word behind next text others is some =
     let words : words_told known (word ∷ parts 32 behind) ≡ text ∷ words_told known (left_parts others) =
-        ap (λ (ps : List (List ℕ)). words_told known (word ∷ ps)) is ∙ ap (λ (o : Option (List ℕ)). told_or o word (words_told known (left_parts others)) (words_told known (next ∷ left_parts others))) some in
+    ap (λ (ps : List (List ℕ)). words_told known (word ∷ ps)) is ∙ ap (λ (o : Option (List ℕ)). told_or o word (words_told known (left_parts others)) (words_told known (next ∷ left_parts others))) some in
     ap (λ (ps : List (List ℕ)). old ++ join_with_byte 32 ps) words ∙ ap (λ (l : List ℕ). old ++ l) (join_left known text others)
     ∙ sym (append_assoc old text (space_before others ++ left_told known others)) ∙ sym (append_assoc (old ++ text) (space_before others) (left_told known others))
 
@@ -77,7 +77,7 @@ pub object_cut : (known : Known) (old line part behind : List ℕ) → parts 44 
 object_cut known old line part behind is =
     let some = some_parts (λ b. b == 44) behind in
     let joined : join_with_byte 44 (member_told known part ∷ map (member_told known) (parts 44 behind)) ≡ member_told known part ++ (44 ∷ object_told known behind) =
-        subst (λ (ps : List (List ℕ)). join_with_byte 44 (member_told known part ∷ map (member_told known) ps) ≡ member_told known part ++ (44 ∷ join_with_byte 44 (map (member_told known) ps))) (sym some.2) refl in
+    subst (λ (ps : List (List ℕ)). join_with_byte 44 (member_told known part ∷ map (member_told known) ps) ≡ member_told known part ++ (44 ∷ join_with_byte 44 (map (member_told known) ps))) (sym some.2) refl in
     ap (λ (ps : List (List ℕ)). old ++ join_with_byte 44 (map (member_told known) ps)) is ∙ ap (λ (l : List ℕ). old ++ l) joined
     ∙ sym (append_assoc old (member_told known part) (44 ∷ object_told known behind)) ∙ sym (append_assoc (old ++ member_told known part) (44 ∷ []) (object_told known behind))
 

@@ -53,7 +53,7 @@ module _ (a b c : Option (List ℕ)) where
       let same : take count (take n piece) ≡ take count piece = take-take count n piece within in
       let given : before.held ≡ gives.given = sym keeps ∙ gives.whole ∙ ap (λ (l : List ℕ). gives.given ++ l) all ∙ append-nil gives.given in
       let bytes : gives.given ++ take count (take n piece) ≡ before.decided ++ before.held ++ take count piece =
-          ap (λ (l : List ℕ). l ++ take count (take n piece)) (sym given) ∙ ap (λ (l : List ℕ). before.held ++ l) same ∙ ap (λ (l : List ℕ). (l ++ before.held) ++ take count piece) (sym none) in
+      ap (λ (l : List ℕ). l ++ take count (take n piece)) (sym given) ∙ ap (λ (l : List ℕ). before.held ++ l) same ∙ ap (λ (l : List ℕ). (l ++ before.held) ++ take count piece) (sym none) in
       record {
         grown = subst (Appends a c) bytes (Appends-trans a b c gives.given (take count (take n piece)) gives.grown grows);
         line = one_taken count piece (omega (arith, is, within));
@@ -86,7 +86,7 @@ module _ (a b c : Option (List ℕ)) where
   takes_piece known before gave after piece first all (inr second) =
       let given : before.decided ≡ first.given = first.whole ∙ ap (λ (l : List ℕ). first.given ++ l) all ∙ append-nil first.given in
       let bytes : first.given ++ ((gave.decided ++ gave.held) ++ piece) ≡ before.decided ++ before.held ++ piece =
-          ap (λ (l : List ℕ). l ++ ((gave.decided ++ gave.held) ++ piece)) (sym given) ∙ ap (λ (l : List ℕ). before.decided ++ ((l ++ gave.held) ++ piece)) all ∙ ap (λ (l : List ℕ). before.decided ++ (l ++ piece)) first.held ∙ sym (append_assoc before.decided before.held piece) in
+      ap (λ (l : List ℕ). l ++ ((gave.decided ++ gave.held) ++ piece)) (sym given) ∙ ap (λ (l : List ℕ). before.decided ++ ((l ++ gave.held) ++ piece)) all ∙ ap (λ (l : List ℕ). before.decided ++ (l ++ piece)) first.held ∙ sym (append_assoc before.decided before.held piece) in
       inr (record {
         grown = subst (Appends a c) bytes (Appends-trans a b c first.given ((gave.decided ++ gave.held) ++ piece) first.grown second.grown);
         line = second.line;

@@ -14,7 +14,9 @@ const MEMBER: &[u8; 11] = b"\"address\":\"";
 
 /// How long that is, where the quote behind its address stands, and how long it is with that.
 const ADDRESS_AT: usize = 11;
+
 const QUOTE_AT: usize = 16;
+
 const MEMBER_END: usize = 17;
 
 /// Whether a part begins with the member of an address.

@@ -24,11 +24,7 @@ pub enum Sourced<'a, 'i, W> {
 
 impl<'a, 'i, W> Sourced<'a, 'i, W> {
     /// A sink over this one, which stands at the beginning of a line. With no debug information all goes on at once as it is. It takes no memory.
-    pub fn new(
-        alloc: Global,
-        below: &'a mut W,
-        info: Option<&'i DebugInfo>,
-    ) -> Sourced<'a, 'i, W>
+    pub fn new(alloc: Global, below: &'a mut W, info: Option<&'i DebugInfo>) -> Sourced<'a, 'i, W>
         ensures reference { below_name result ≡ below.entry.ghost_name }
         ensures below { below_of result ≡ below.old }
         ensures known { known_to result ≡ option_map known_of (option_copied info.entry) }
