@@ -1,5 +1,5 @@
 -- What calls of a sink that tells lines come to.
-use Rattle.std.proofs.Common.{◌≡◌, ◌<◌, ◌≤◌, ℕ, suc, Bool, true, false, List, [], ◌∷◌, ◌++◌, length, length-take, take, drop, refl, sym, ap, ◌∙◌, subst, append_assoc, append-nil, arith, inl, inr}
+use Rattle.std.proofs.Common.{◌≡◌, ◌<◌, ◌≤◌, ℕ, Bool, true, false, List, [], ◌∷◌, ◌++◌, length, take, drop, refl, sym, ap, ◌∙◌, subst, append_assoc, append-nil, arith, inl, inr}
 use Rattle.std.specs.Prelude.{◌==◌, ◌⊎◌, Option, if◌then◌else◌, not}
 use Rattle.std.specs.List.{list_any}
 use Rattle.std.specs.Io.BufRead.{take_through}
@@ -8,7 +8,7 @@ use Rattle.std.proofs.KnownBytes.{Appends-kept, Appends-nil, Appends-trans}
 use Rattle.std.proofs.lemmas.List.{take-append-drop, take-take}
 use Rattle.zfront.specs.ReadAhead.{IsOneLine}
 use Rattle.zfront.specs.Sourced.{Known, is_end, line_told}
-use Rattle.zfront.specs.ToldLines.{Untold, GivesDecided, GivesHeld, Holds, LetsPass, Settles, TakesNone, TakesPiece, holding}
+use Rattle.zfront.specs.ToldLines.{Untold, GivesDecided, GivesHeld, LetsPass, Settles, TakesNone, TakesPiece, holding}
 use Rattle.zfront.proofs.Lining.{line_begins, one_line}
 
 -- ---- lines

@@ -1,5 +1,5 @@
 -- Values of the definitions of what is told of the source, computed.
-use Rattle.std.proofs.Common.{◌≡◌, ℕ, Bool, true, false, Some, None, [], ◌∷◌, ◌++◌, List, cond, nat_eq, refl}
+use Rattle.std.proofs.Common.{◌≡◌, ℕ, Some, None, [], ◌∷◌, List, cond, nat_eq, refl}
 use Rattle.std.specs.Fmt.{digits}
 use Rattle.std.specs.Prelude.{codes, Option}
 use Rattle.zdebug.specs.Records.{Found, nothing}

@@ -1,8 +1,8 @@
 -- Values of the definitions of a sink that tells lines, computed.
-use Rattle.std.proofs.Common.{◌≡◌, ℕ, true, false, Some, None, [], ◌∷◌, refl}
+use Rattle.std.proofs.Common.{◌≡◌, false, Some, None, [], refl}
 use Rattle.std.specs.Prelude.{codes}
 use Rattle.zfront.specs.Sourced.{Known}
-use Rattle.zfront.specs.ToldLines.{Untold, holding, nothing_untold}
+use Rattle.zfront.specs.ToldLines.{holding}
 
 abbrev story : Known
 story = record { place = λ n. Some (codes "a.inf:1, Main"); object = λ n. None; name = λ kind n. None }

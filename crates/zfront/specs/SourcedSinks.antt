@@ -2,7 +2,6 @@
 use Rattle.std.specs.Prelude.{ℕ, Bool, List, Option, None, Some, Result}
 use Rattle.std.specs.Io.KnownBytes.{Appends, Keeps}
 use Rattle.std.specs.Borrow.{GName}
-use Rattle.zdebug.specs.Records.{Found}
 use Rattle.zfront.specs.declared.told_lines.ToldLines.{ToldLines}
 use Rattle.zfront.specs.declared.sourced.Sourced.{Sourced}
 use Rattle.zfront.specs.declared.sourced.Sourced.TheVariants.{Plain, Told}

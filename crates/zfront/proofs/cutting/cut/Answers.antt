@@ -1,4 +1,4 @@
-use Rattle.std.proofs.Common.{◌≡◌, ◌∙◌, ◌+◌, ◌-◌, List, ℕ, ◌∷◌, length, length-drop, take, drop, sym, ap, arith}
+use Rattle.std.proofs.Common.{◌∙◌, ◌+◌, List, ℕ, ◌∷◌, length-drop, take, drop, sym, ap, arith}
 use Rattle.std.proofs.lemmas.List.{take_all}
 use Rattle.zfront.specs.Sourced.{parts}
 use Rattle.zfront.proofs.Cuts.{parts_cut}

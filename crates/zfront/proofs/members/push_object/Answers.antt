@@ -1,4 +1,4 @@
-use Rattle.std.proofs.Common.{◌≡◌, ◌∙◌, ◌∷◌, ◌++◌, [], List, ℕ, ap, sym, rules}
+use Rattle.std.proofs.Common.{◌≡◌, ◌∙◌, ◌∷◌, ◌++◌, [], List, ℕ, ap, rules}
 use Rattle.zfront.specs.Sourced.{known_of, member_told, object_told}
 use Rattle.zfront.proofs.Lines.{object_cut}
 use Rattle.zfront.proofs.members.push_object.Goals as goal
