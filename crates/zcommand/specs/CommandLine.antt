@@ -104,6 +104,10 @@ replay_rule = file_rule (codes "replay")
 abbrev pub no_save_rule : Rule
 no_save_rule = record (new_rule (codes "no-save")) { long = Some (codes "no-save"); action = Some SetTrue }
 
+-- `--debug FILE`
+abbrev pub debug_rule : Rule
+debug_rule = file_rule (codes "debug")
+
 -- `CERT`, which has to be there or may be
 abbrev pub certificate_rule : Bool → Rule
 certificate_rule required = word_rule (codes "CERT") required
@@ -136,9 +140,9 @@ address_rule = word_rule (codes "ADDRESS") false
 abbrev pub files_app : Text → Bool → App
 files_app name required = with_rule (with_rule (new_app name) story_rule) (certificate_rule required)
 
--- `list STORY [CERT] --json`
+-- `list STORY [CERT] --json --debug FILE`
 abbrev pub list_app : App
-list_app = with_rule (files_app (codes "list") false) json_rule
+list_app = with_rule (with_rule (files_app (codes "list") false) json_rule) debug_rule
 
 -- a command on FILE..
 abbrev pub many_app : Text → App
@@ -148,17 +152,17 @@ many_app name = with_rule (new_app name) files_rule
 abbrev pub framing_app : App
 framing_app = with_rule (with_rule (many_app (codes "find")) output_rule) frames_rule
 
--- the same with `--strict --places --force --json`
+-- the same with `--strict --places --force --json --debug FILE`
 abbrev pub find_app : App
-find_app = with_rule (with_rule (with_rule (with_rule framing_app strict_rule) places_rule) force_rule) json_rule
+find_app = with_rule (with_rule (with_rule (with_rule (with_rule framing_app strict_rule) places_rule) force_rule) json_rule) debug_rule
 
--- `check FILE.. --json`
+-- `check FILE.. --json --debug FILE`
 abbrev pub check_app : App
-check_app = with_rule (many_app (codes "check")) json_rule
+check_app = with_rule (with_rule (many_app (codes "check")) json_rule) debug_rule
 
--- `show STORY CERT [ADDRESS]`
+-- `show STORY CERT [ADDRESS] --debug FILE`
 abbrev pub show_app : App
-show_app = with_rule (files_app (codes "show") true) address_rule
+show_app = with_rule (with_rule (files_app (codes "show") true) address_rule) debug_rule
 
 -- `play STORY [CERT] --seed N --budget N --status`
 abbrev pub saveless_app : App
@@ -176,9 +180,9 @@ frontless_app = with_rule strict_app lenient_rule
 abbrev pub showing_app : App
 showing_app = with_rule (with_rule (with_rule frontless_app width_rule) plain_rule) transcript_rule
 
--- the same with `--record FILE --replay FILE --no-save`
+-- the same with `--record FILE --replay FILE --no-save --debug FILE`
 abbrev pub play_app : App
-play_app = with_rule (with_rule (with_rule showing_app record_rule) replay_rule) no_save_rule
+play_app = with_rule (with_rule (with_rule (with_rule showing_app record_rule) replay_rule) no_save_rule) debug_rule
 
 -- `info STORY --json`
 abbrev pub info_app : App
@@ -400,6 +404,15 @@ front_named front =
       typed_before = option_map (λ f. f.now) front.replay;
       no_save = front.no_save;
     }
+
+-- the name of the file of debug information among the matches of a command, if there is one
+abbrev pub debug_of : List Row → Option Text
+debug_of rows = first_of (codes "debug") rows
+
+-- what the matches name so: of a command without `--debug` clap has none among its matches
+abbrev pub debug_asked : Option (Text × List Row) → Option Text
+debug_asked (Some matches) = debug_of matches.1
+debug_asked None = None
 
 -- the code among the matches of `explain`, if there is one
 abbrev pub code_of : List Row → Option Text

@@ -3,7 +3,7 @@
 ghost use Rattle.std.specs.Prelude.{◌≡◌, IfOk, false};
 ghost use Rattle.clap.specs.Words.{app_of, rule_of};
 ghost use Rattle.clap.specs.declared.builder.command.Command.TheViews.{out-Command as fields_of};
-ghost use Rattle.zcommand.specs.CommandLine.{frames_rule, framing_app, frontless_app, bare_app, budget_rule, certificate_rule, address_rule, certifying_app, check_app, code_rule, explain_app, file_rule, files_app, files_rule, find_app, force_rule, info_app, json_rule, lenient_rule, list_app, many_app, naming_app, no_save_rule, out_rule, output_rule, packed_rule, places_rule, plain_rule, play_app, playing_app, record_rule, replay_rule, save_rule, saveless_app, seed_rule, show_app, showing_app, status_rule, story_rule, strict_app, strict_rule, tell_rule, transcript_rule, unpack_app, width_rule, word_rule, zpc_app};
+ghost use Rattle.zcommand.specs.CommandLine.{frames_rule, framing_app, frontless_app, bare_app, budget_rule, certificate_rule, address_rule, certifying_app, check_app, code_rule, debug_rule, explain_app, file_rule, files_app, files_rule, find_app, force_rule, info_app, json_rule, lenient_rule, list_app, many_app, naming_app, no_save_rule, out_rule, output_rule, packed_rule, places_rule, plain_rule, play_app, playing_app, record_rule, replay_rule, save_rule, saveless_app, seed_rule, show_app, showing_app, status_rule, story_rule, strict_app, strict_rule, tell_rule, transcript_rule, unpack_app, width_rule, word_rule, zpc_app};
 
 use crate::words::{MOST_FRAMES, MOST_WIDTH};
 use clap::builder::ValueParser;
@@ -137,7 +137,8 @@ fn list<'a>(alloc: Global) -> Result<clap::Command<'a>, AllocError>
   zpc list story.z3 story.cert
   zpc list --json story.z3",
     )
-    .arg(json(alloc))
+    .arg(json(alloc))?
+    .arg(debug(alloc))
 }
 
 fn find<'a>(alloc: Global) -> Result<clap::Command<'a>, AllocError>
@@ -146,7 +147,7 @@ fn find<'a>(alloc: Global) -> Result<clap::Command<'a>, AllocError>
 {
     let find = framing(alloc)?.arg(strict(alloc))?;
     let find = find.arg(places(alloc))?.arg(force(alloc))?;
-    find.arg(json(alloc))
+    find.arg(json(alloc))?.arg(debug(alloc))
 }
 
 /// `find` without its flags.
@@ -164,7 +165,8 @@ fn check<'a>(alloc: Global) -> Result<clap::Command<'a>, AllocError>
     ensures local { IfOk result (λ check. (fields_of check).has_globals ≡ false) }
 {
     let check = on_many(alloc, "check", "Checks certificates of stories")?;
-    check.after_help(CHECK_ENDING).arg(json(alloc))
+    let check = check.after_help(CHECK_ENDING).arg(json(alloc))?;
+    check.arg(debug(alloc))
 }
 
 fn show<'a>(alloc: Global) -> Result<clap::Command<'a>, AllocError>
@@ -177,7 +179,8 @@ fn show<'a>(alloc: Global) -> Result<clap::Command<'a>, AllocError>
   zpc show story.z3 story.cert
   zpc show story.z3 story.cert 00325",
     )
-    .arg(address(alloc))
+    .arg(address(alloc))?
+    .arg(debug(alloc))
 }
 
 fn play<'a>(alloc: Global) -> Result<clap::Command<'a>, AllocError>
@@ -185,10 +188,11 @@ fn play<'a>(alloc: Global) -> Result<clap::Command<'a>, AllocError>
     ensures local { IfOk result (λ play. (fields_of play).has_globals ≡ false) }
 {
     let play = showing(alloc)?.arg(recorded(alloc))?;
-    play.arg(replayed(alloc))?.arg(no_save(alloc))
+    let play = play.arg(replayed(alloc))?.arg(no_save(alloc))?;
+    play.arg(debug(alloc))
 }
 
-/// `play` without what is said of the lines typed, and of keeping no saves.
+/// `play` without what is said of the lines typed, of keeping no saves, and of the source.
 fn showing<'a>(alloc: Global) -> Result<clap::Command<'a>, AllocError>
     ensures app { IfOk result (λ play. app_of play ≡ showing_app) }
     ensures local { IfOk result (λ play. (fields_of play).has_globals ≡ false) }
@@ -515,6 +519,14 @@ fn no_save<'a>(alloc: Global) -> Arg<'a>
         .long("no-save")
         .help("Keeps no saves, on a terminal too")
         .action(ArgAction::SetTrue)
+}
+
+fn debug<'a>(alloc: Global) -> Arg<'a>
+    ensures rule { rule_of result ≡ debug_rule }
+    ensures local { result.global ≡ false }
+{
+    let help = "Tells the source's lines and names by this file, which Inform 6 writes with -k";
+    kept_in(alloc, "debug", help, "FILE")
 }
 
 /// An option whose value is the name of a file, which isn't empty.

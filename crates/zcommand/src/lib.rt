@@ -4,4 +4,4 @@
 mod commands;
 mod words;
 
-pub use words::{Command, Front, command_of, front_of, read_words};
+pub use words::{Command, Front, command_of, debug_of, front_of, read_words};

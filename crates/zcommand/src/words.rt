@@ -3,7 +3,7 @@
 ghost use Rattle.std.specs.Prelude.{◌≡◌, ◌<◌, ◌≤◌, IfOk, IfSome, IsSomeAnd, codes, false, map, option_and_then, option_map};
 ghost use Rattle.clap.specs.Walk.{texts};
 ghost use Rattle.clap.specs.Words.{FailsBy, fault_of, found_of, rows_of, subcommand_name_of, subcommand_of, subcommand_rows_of};
-ghost use Rattle.zcommand.specs.CommandLine.{IsCommand, IsLow, IsReadFrom, files_of, fitting, frames_of, front_asked, front_named, front_of, is_json_asked, is_width, low_limit, no_front, pair_of, target_of, width_of, zpc_app};
+ghost use Rattle.zcommand.specs.CommandLine.{IsCommand, IsLow, IsReadFrom, debug_asked, files_of, fitting, frames_of, front_asked, front_named, front_of, is_json_asked, is_width, low_limit, no_front, pair_of, target_of, width_of, zpc_app};
 
 use crate::commands::program;
 use clap::{ArgMatches, Error};
@@ -220,6 +220,17 @@ pub fn front_of<'a>(matches: &ArgMatches<'a>) -> Front<'a>
     match matches.subcommand_matches("play") {
         Some(play) => play_front_of(play),
         None => Front::none(),
+    }
+}
+
+/// The name of the file of debug information that the command named is to tell of the source by; `None` where none is named, and of a
+/// command that tells of none.
+pub fn debug_of<'a>(matches: &ArgMatches<'a>) -> Option<&'a str>
+    ensures { option_map (λ name. name.now) result ≡ debug_asked (subcommand_rows_of matches.now) }
+{
+    match matches.subcommand() {
+        Some((_, command)) => command.get_str("debug"),
+        None => None,
     }
 }
 
