@@ -1,8 +1,9 @@
 #!/usr/bin/env python3
 """The manual page, made of what the program says for --help.
 
-    manual.py                      writes docs/zpc.1 of the texts in tests/program/help, which stored runs hold the program to
-    manual.py --check [PROGRAM]    fails where it differs from what these texts give, or those that PROGRAM prints, with a line for each difference
+    manual.py                      writes docs/zpc.1 of the texts in tests/program/help, which stored runs hold the program to, and the source from
+                                   which the program has the same page
+    manual.py --check [PROGRAM]    fails where one differs from what these texts give, or those that PROGRAM prints, with a line for each difference
 
 Only what help doesn't say stands here: FILES, what a code is, and the standards.
 """
@@ -15,6 +16,7 @@ import sys
 from definitions import TOP, text_of
 
 DOCUMENT = "docs/zpc.1"
+SOURCE = "crates/zexplain/src/manual.rt"
 SIGNS = {"\\": "\\e", "-": "\\-", "'": "\\(aq", '"': "\\(dq", "`": "\\(ga", "^": "\\(ha", "~": "\\(ti"}
 
 CODES = "What is refused, a fault and a failure are told on the errors by a code, as refused: I4 at 00329. zpc explain says what each means."
@@ -31,6 +33,7 @@ FILES = [
         "A save of the Quetzal standard, in the file that --save names. It is written as my.qzl.part first and takes its name once it is on the "
         "disk, so that an end at any moment leaves the old save.",
     ),
+    ("gameinfo.dbg", "What Inform 6 writes of a story's source with -k, in the file that --debug names."),
 ]
 
 BESIDE = "The Z-Machine Standards Document 1.1; Quetzal: Z-machine Common Save-File Format Standard 1.4."
@@ -149,10 +152,29 @@ def written():
     return page(stored, version)
 
 
+def source(page):
+    """The source that has the page."""
+    said = page.replace("\\", "\\\\").replace('"', '\\"')
+    return f"""//! The manual page. tests/manual.py writes this file: docs/zpc.1 is the same page.
+
+/// The manual page, in the language of roff, as `zpc help man` prints it.
+pub const MANUAL: &str =
+    "{said}";
+"""
+
+
+def files_of(page):
+    """What is written of a page, with where."""
+    return [(DOCUMENT, page), (SOURCE, source(page))]
+
+
 def differences(page):
-    """The lines in which the document differs from a page."""
-    old = text_of(DOCUMENT).splitlines() if os.path.exists(os.path.join(TOP, DOCUMENT)) else []
-    return list(difflib.unified_diff(old, page.splitlines(), DOCUMENT, "manual.py", lineterm="", n=0))
+    """The lines in which the document, or the source, differs from a page."""
+    found = []
+    for path, text in files_of(page):
+        old = text_of(path).splitlines() if os.path.exists(os.path.join(TOP, path)) else []
+        found += difflib.unified_diff(old, text.splitlines(), path, "manual.py", lineterm="", n=0)
+    return found
 
 
 def unseen():
@@ -170,8 +192,9 @@ def main():
             found = differences(written())
         print("\n".join(found), end="\n" if found else "")
         return 1 if found else 0
-    with open(os.path.join(TOP, DOCUMENT), "w", encoding="utf-8") as out:
-        out.write(written())
+    for path, text in files_of(written()):
+        with open(os.path.join(TOP, path), "w", encoding="utf-8") as out:
+            out.write(text)
     return 0
 
 

@@ -202,7 +202,7 @@ names an object. Of a table: o = things-->k; if (o >= First && o <= Last) print 
 """
 
 
-CODES = [f"{letter}{number}" for letter, last in zip("LUJEKSIGFQCPN", (12, 4, 5, 3, 9, 8, 18, 3, 16, 11, 9, 3, 2)) for number in range(1, last + 1)]
+CODES = [f"{letter}{number}" for letter, last in zip("LUJEKSIGFQCPNB", (12, 4, 5, 3, 9, 8, 18, 3, 16, 11, 9, 3, 2, 10)) for number in range(1, last + 1)]
 
 
 def explained():
@@ -223,7 +223,7 @@ def see_explaining(program, count):
         count.is_answer(f"explain {code} in a small letter", answer, Answer(0, text, b""))
     # Codes of instructions and of texts stand behind those of loading, with which they belong.
     texts = dict(explained())
-    ordered = [code for letter in "LJEUKSGIFQCPN" for code in texts if code[0] == letter]
+    ordered = [code for letter in "LJEUKSGIFQCPNB" for code in texts if code[0] == letter]
     lines = b"".join(texts[code].split(b"\n")[0] + b"\n" for code in ordered)
     count.is_answer("explain all", program.run(["explain"]), Answer(0, lines, b""))
     one = program.run(["explain", "--json", "i5"])

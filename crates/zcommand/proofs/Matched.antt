@@ -17,7 +17,7 @@ use Rattle.clap.specs.Words.{ReadsOne, Row, Text, first_of, first_value, matched
 use Rattle.clap.specs.declared.parser.matches.ArgMatches.{ArgMatches}
 use Rattle.clap.specs.declared.parser.matches.ArgMatches.TheViews.{out-ArgMatches, out-SubCommand}
 use Rattle.clap.specs.Simple.{subcommand_rows}
-use Rattle.zcommand.specs.CommandLine.{Front, IsLow, IsReadFrom, address_of, certificate_of, code_of, files_of, fitting, fitting_in, frames_of, front_named, front_of, is_asked, is_limit, is_no_save_asked, is_plain_asked, is_width, number_in, number_of, out_of, output_of, packed_of, pair_of, save_of, story_of, target_of, width_of}
+use Rattle.zcommand.specs.CommandLine.{Front, IsLow, IsReadFrom, address_of, certificate_of, code_of, debug_asked, files_of, fitting, fitting_in, frames_of, front_named, front_of, is_asked, is_limit, is_no_save_asked, is_plain_asked, is_width, number_in, number_of, out_of, output_of, packed_of, pair_of, save_of, story_of, target_of, width_of}
 use Rattle.zcommand.specs.declared.words.Command.{Command}
 use Rattle.zcommand.specs.declared.words.Command.TheVariants as commands
 use Rattle.zcommand.specs.declared.words.Front.{Front as NamedFront}
@@ -132,6 +132,13 @@ output_given found o given = given ∙ first_value-rows found (codes "output")
 -- and of a file for saves
 pub save_given : (found : Found) (o : Option (Bor Text)) → option_map (λ s. s.now) o ≡ first_value found (codes "save") → option_map (λ s. s.now) o ≡ save_of (rows_of found)
 save_given found o given = given ∙ first_value-rows found (codes "save")
+
+-- of the file of debug information, which the matches of a subcommand have, whose rows are these
+pub debug_given : (found : Found) (named : Option (Text × List Row)) (o : Option (Bor Text)) → option_map (λ s. s.now) o ≡ first_value found (codes "debug")
+    → Some (rows_of found) ≡ option_map (λ p. p.1) named → option_map (λ s. s.now) o ≡ debug_asked named
+debug_given found (Some (name, rows)) o given at =
+    given ∙ first_value-rows found (codes "debug") ∙ ap (λ (x : Option (List Row)). first_of (codes "debug") (unwrap_or x [])) at
+debug_given found None o given at = absurd cc
 
 pub certificate_read : (found : Found) (o : Option (Bor Text)) (d r : Bor Text) → option_map (λ s. s.now) o ≡ first_value found (codes "CERT") → d.now ≡ [] → r ≡ unwrap_or o d → r.now ≡ unwrap_or (certificate_of (rows_of found)) []
 certificate_read = text_read (codes "CERT")

@@ -1,13 +1,13 @@
 -- Values of the definitions, computed.
 use Rattle.std.proofs.Common.{◌≡◌, List, [], ◌∷◌, Bool, true, false, codes, refl}
-use Rattle.std.specs.Prelude.{IsSomeAnd, None, Some}
+use Rattle.std.specs.Prelude.{IsSomeAnd, None, Option, Some}
 use Rattle.std.specs.Char.{encode_utf8}
 use Rattle.std.specs.Str.{chars}
 use Rattle.clap.specs.Kinds.{Kinds}
 use Rattle.clap.specs.Words.{Text, subcommand_of, fault_of}
 use Rattle.clap.specs.Walk.{bundle_met, walked}
 use Rattle.clap.specs.Faults.{defaults_fault, flags_fault, walk_fault}
-use Rattle.zcommand.specs.CommandLine.{Asks, Front, Request, ListStory, Find, FindEach, OneForMany, Check, CheckEach, Show, Play, Info, Explain, Unpack, fitting_in, front_asked, is_width, no_front, number_in, zpc_app}
+use Rattle.zcommand.specs.CommandLine.{Asks, Front, Request, ListStory, Find, FindEach, OneForMany, Check, CheckEach, Show, Play, Info, Explain, Unpack, debug_asked, fitting_in, front_asked, is_width, no_front, number_in, zpc_app}
 
 -- a number is below 2 to the 32nd, or to the 64th, and has digits alone behind one plus
 numbers :
@@ -85,6 +85,28 @@ shown :
 unfolding walked bundle_met chars encode_utf8 flags_fault walk_fault defaults_fault
 shown = ((refl, refl), (refl, refl), (refl, refl), (refl, refl), (refl, refl), (refl, refl), (refl, refl), (refl, refl), (refl, refl), (refl, refl))
 
+-- words that ask for nothing that is wrong, and name this file of debug information
+abbrev AskDebug : List Text → Option Text → Type 0
+AskDebug words name = (fault_of zpc_app words ≡ []) × (debug_asked (subcommand_of zpc_app words) ≡ name)
+
+-- each command on listings, certificates or plays names one, or needn't; no other command has one
+debugged :
+    AskDebug (codes "list" ∷ codes "a.z3" ∷ codes "--debug" ∷ codes "d" ∷ []) (Some (codes "d"))
+    × AskDebug (codes "find" ∷ codes "--debug=d" ∷ codes "a.z3" ∷ codes "-o" ∷ codes "c" ∷ []) (Some (codes "d"))
+    × AskDebug (codes "check" ∷ codes "a.z3" ∷ codes "--debug" ∷ codes "d" ∷ codes "b.z3" ∷ []) (Some (codes "d"))
+    × AskDebug (codes "show" ∷ codes "--debug" ∷ codes "d" ∷ codes "a.z3" ∷ codes "c" ∷ codes "00325" ∷ []) (Some (codes "d"))
+    × AskDebug (codes "play" ∷ codes "--record" ∷ codes "e" ∷ codes "--debug" ∷ codes "d" ∷ codes "a.z3" ∷ []) (Some (codes "d"))
+    × AskDebug (codes "list" ∷ codes "a.z3" ∷ codes "c" ∷ []) None
+    × AskDebug (codes "find" ∷ codes "-oc" ∷ codes "a.z3" ∷ []) None
+    × AskDebug (codes "check" ∷ codes "a.z3" ∷ []) None
+    × AskDebug (codes "show" ∷ codes "a.z3" ∷ codes "c" ∷ []) None
+    × AskDebug (codes "play" ∷ codes "--record" ∷ codes "e" ∷ codes "a.z3" ∷ []) None
+    × AskDebug (codes "info" ∷ codes "a.z3" ∷ []) None
+    × AskDebug (codes "explain" ∷ codes "I5" ∷ []) None
+    × AskDebug (codes "unpack" ∷ codes "a" ∷ codes "b" ∷ codes "c" ∷ []) None
+unfolding walked bundle_met chars encode_utf8 flags_fault walk_fault defaults_fault
+debugged = ((refl, refl), (refl, refl), (refl, refl), (refl, refl), (refl, refl), (refl, refl), (refl, refl), (refl, refl), (refl, refl), (refl, refl), (refl, refl), (refl, refl), (refl, refl))
+
 -- a command lacks a file or has too many, or there is none of the name, or none at all, or the budget is 2 to the 32nd or the
 -- seed 2 to the 64th, or the width isn't from 1 to 1000, or the flag has a value, or the option has none or an empty one, or is there twice
 is_wrong : Kinds → Bool
@@ -140,6 +162,13 @@ wrong :
     × (is_wrong (fault_of zpc_app (codes "play" ∷ codes "a.z3" ∷ codes "--no-save=true" ∷ [])) ≡ true)
     × (is_wrong (fault_of zpc_app (codes "play" ∷ codes "--no-save" ∷ codes "a.z3" ∷ codes "--no-save" ∷ [])) ≡ true)
     × (is_wrong (fault_of zpc_app (codes "check" ∷ codes "a.z3" ∷ codes "--record" ∷ codes "b" ∷ [])) ≡ true)
+    × (is_wrong (fault_of zpc_app (codes "list" ∷ codes "a.z3" ∷ codes "--debug" ∷ [])) ≡ true)
+    × (is_wrong (fault_of zpc_app (codes "find" ∷ codes "a.z3" ∷ codes "--debug" ∷ [] ∷ [])) ≡ true)
+    × (is_wrong (fault_of zpc_app (codes "check" ∷ codes "a.z3" ∷ codes "--debug=" ∷ [])) ≡ true)
+    × (is_wrong (fault_of zpc_app (codes "play" ∷ codes "a.z3" ∷ codes "--debug" ∷ codes "b" ∷ codes "--debug" ∷ codes "c" ∷ [])) ≡ true)
+    × (is_wrong (fault_of zpc_app (codes "info" ∷ codes "a.z3" ∷ codes "--debug" ∷ codes "b" ∷ [])) ≡ true)
+    × (is_wrong (fault_of zpc_app (codes "explain" ∷ codes "I5" ∷ codes "--debug" ∷ codes "b" ∷ [])) ≡ true)
+    × (is_wrong (fault_of zpc_app (codes "unpack" ∷ codes "a" ∷ codes "b" ∷ codes "c" ∷ codes "--debug" ∷ codes "d" ∷ [])) ≡ true)
     × (is_wrong (fault_of zpc_app (codes "list" ∷ codes "a.z3" ∷ codes "--width" ∷ codes "80" ∷ [])) ≡ true)
 unfolding is_wrong walked bundle_met chars encode_utf8 flags_fault walk_fault defaults_fault
-wrong = (refl, refl, refl, refl, refl, refl, refl, refl, refl, refl, refl, refl, refl, refl, refl, refl, refl, refl, refl, refl, refl, refl, refl, refl, refl, refl, refl, refl, refl, refl, refl, refl, refl, refl, refl, refl, refl, refl, refl, refl, refl, refl, refl, refl, refl, refl, refl, refl, refl)
+wrong = (refl, refl, refl, refl, refl, refl, refl, refl, refl, refl, refl, refl, refl, refl, refl, refl, refl, refl, refl, refl, refl, refl, refl, refl, refl, refl, refl, refl, refl, refl, refl, refl, refl, refl, refl, refl, refl, refl, refl, refl, refl, refl, refl, refl, refl, refl, refl, refl, refl, refl, refl, refl, refl, refl, refl, refl)

@@ -27,6 +27,8 @@ has it checks it. A play of a story that is accepted with it never meets a fault
 check and find take many stories: the certificate of story.z3 is story.cert, and where two files are named of which the second ends
 in neither .z3 nor .Z3, that is the certificate's. With --json a command answers with one object of JSON a line.
 
+zpc help man prints the manual page.
+
 Exit status:
   0  done
   1  refused: a story, a certificate, a save, or a file that would be written over; or no certificate is found

@@ -4,6 +4,7 @@ use Rattle.std.specs.List.{after_first, before_first}
 use Rattle.std.specs.Io.BufRead.{strip_last}
 use Rattle.zexplain.specs.Texts.{explanation_of}
 use Rattle.zexplain.specs.declared.certificates.TheConstants.{FINDING, FITTING, READING}
+use Rattle.zexplain.specs.declared.debugging.TheConstants.{DEBUGGING}
 use Rattle.zexplain.specs.declared.faults.TheConstants.{FAULTS}
 use Rattle.zexplain.specs.declared.playing.TheConstants.{KEEPING, PLAYING, SAVING, UNPACKING}
 use Rattle.zexplain.specs.declared.rules.TheConstants.{RULES}
@@ -34,6 +35,9 @@ codes_of_certificates = flat_map (λ e. heading e.1.now) READING ++ flat_map (λ
 unfoldable pub codes_of_play : List ℕ
 codes_of_play = flat_map (λ e. heading e.1.now) FAULTS ++ flat_map (λ e. heading e.1.now) SAVING ++ flat_map (λ e. heading e.1.now) UNPACKING ++ flat_map (λ e. heading e.1.now) PLAYING ++ flat_map (λ e. heading e.1.now) KEEPING
 
+unfoldable pub codes_of_debugging : List ℕ
+codes_of_debugging = flat_map (λ e. heading e.1.now) DEBUGGING
+
 -- every code in a few words, each on a line of its own
 abbrev pub all_codes : List ℕ
-all_codes = codes_of_stories ++ codes_of_certificates ++ codes_of_play
+all_codes = codes_of_stories ++ codes_of_certificates ++ codes_of_play ++ codes_of_debugging

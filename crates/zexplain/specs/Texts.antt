@@ -3,6 +3,7 @@ use Rattle.std.specs.Prelude.{List, ℕ, [], ◌∷◌, Option, Some, None, find
 use Rattle.std.specs.Char.{to_ascii_uppercase}
 use Rattle.std.specs.Str.{bytes_eq}
 use Rattle.zexplain.specs.declared.certificates.TheConstants.{FINDING, FITTING, READING}
+use Rattle.zexplain.specs.declared.debugging.TheConstants.{DEBUGGING}
 use Rattle.zexplain.specs.declared.faults.TheConstants.{FAULTS}
 use Rattle.zexplain.specs.declared.playing.TheConstants.{KEEPING, PLAYING, SAVING, UNPACKING}
 use Rattle.zexplain.specs.declared.rules.TheConstants.{RULES}
@@ -64,6 +65,10 @@ playing_text code = text_among (map (λ entry. (entry.0.now, entry.1.now)) PLAYI
 abbrev pub keeping_text : List ℕ → Option (List ℕ)
 keeping_text code = text_among (map (λ entry. (entry.0.now, entry.1.now)) KEEPING) code
 
+-- a file of debug information that isn't read
+abbrev pub debugging_text : List ℕ → Option (List ℕ)
+debugging_text code = text_among (map (λ entry. (entry.0.now, entry.1.now)) DEBUGGING) code
+
 -- the first that is there
 abbrev pub or_else : Option (List ℕ) → Option (List ℕ) → Option (List ℕ)
 or_else None other = other
@@ -80,7 +85,7 @@ of_play code = or_else (or_else (or_else (or_else (fault_text code) (saving_text
 
 -- the text of a code, if it is one
 abbrev pub text_of : List ℕ → Option (List ℕ)
-text_of code = or_else (or_else (of_stories code) (of_certificates code)) (of_play code)
+text_of code = or_else (or_else (or_else (of_stories code) (of_certificates code)) (of_play code)) (debugging_text code)
 
 -- a word whose first byte, if it is a letter a to z, is the capital
 abbrev pub with_capital : List ℕ → List ℕ

@@ -2,9 +2,10 @@
 
 ghost use Rattle.std.specs.Prelude.{◌≡◌, find, map, option_map};
 ghost use Rattle.std.specs.Str.{bytes_eq};
-ghost use Rattle.zexplain.specs.Texts.{explanation_of, with_capital, of_certificates, of_play, of_stories, text_among, loading_text, decoding_text, decoded_text, listing_text, reading_text, fitting_text, finding_text, rule_text, fault_text, saving_text, unpacking_text, playing_text, keeping_text};
+ghost use Rattle.zexplain.specs.Texts.{explanation_of, with_capital, of_certificates, of_play, of_stories, text_among, debugging_text, loading_text, decoding_text, decoded_text, listing_text, reading_text, fitting_text, finding_text, rule_text, fault_text, saving_text, unpacking_text, playing_text, keeping_text};
 
 use crate::certificates::{FINDING, FITTING, READING};
+use crate::debugging::DEBUGGING;
 use crate::faults::FAULTS;
 use crate::playing::{KEEPING, PLAYING, SAVING, UNPACKING};
 use crate::rules::RULES;
@@ -15,7 +16,10 @@ use crate::stories::{DECODING, LISTING, LOADING, TEXTS};
 pub fn explanation(code: &str) -> Option<&'static str>
     ensures text { option_map (λ text. text.now) result ≡ explanation_of code.now }
 {
-    of_stories(code).or(of_certificates(code)).or(of_play(code))
+    of_stories(code)
+        .or(of_certificates(code))
+        .or(of_play(code))
+        .or(debugging(code))
 }
 
 fn of_stories(code: &str) -> Option<&'static str>
@@ -122,6 +126,12 @@ fn keeping(code: &str) -> Option<&'static str>
     ensures { option_map (λ text. text.now) result ≡ keeping_text (with_capital code.now) }
 {
     text_among(&KEEPING, code)
+}
+
+fn debugging(code: &str) -> Option<&'static str>
+    ensures { option_map (λ text. text.now) result ≡ debugging_text (with_capital code.now) }
+{
+    text_among(&DEBUGGING, code)
 }
 
 /// The text of a code among entries.

@@ -5,6 +5,7 @@ ghost use Rattle.std.specs.Io.BufRead.{strip_last};
 ghost use Rattle.zexplain.specs.Short.{all_codes, codes_of_certificates, codes_of_play, codes_of_stories, first_line, heading, in_short_of, shortened};
 
 use crate::certificates::{FINDING, FITTING, READING};
+use crate::debugging::DEBUGGING;
 use crate::explaining::explanation;
 use crate::faults::FAULTS;
 use crate::playing::{KEEPING, PLAYING, SAVING, UNPACKING};
@@ -21,7 +22,7 @@ pub fn in_short(code: &str) -> Option<&'static str>
 }
 
 /// The first line of what each code means, as `I5: an operand that has to be an object may be none, most often 0.`, each with its end, in the
-/// order L, J, E, U, K, S, G, I, F, Q, C, P, N. Fails only for want of memory.
+/// order L, J, E, U, K, S, G, I, F, Q, C, P, N, B. Fails only for want of memory.
 pub fn all_codes(alloc: Global) -> Result<Vec<u8>, AllocError>
     ensures { IfOk result (λ text. text.items ≡ all_codes) }
 {
@@ -29,6 +30,7 @@ pub fn all_codes(alloc: Global) -> Result<Vec<u8>, AllocError>
     push_stories(&mut text)?;
     push_certificates(&mut text)?;
     push_play(&mut text)?;
+    push_headings(&DEBUGGING, &mut text)?;
     Ok(text)
 }
 
