@@ -152,9 +152,13 @@ many_app name = with_rule (new_app name) files_rule
 abbrev pub framing_app : App
 framing_app = with_rule (with_rule (many_app (codes "find")) output_rule) frames_rule
 
--- the same with `--strict --places --force --json --debug FILE`
+-- the same with `--strict --places`
+abbrev pub marking_app : App
+marking_app = with_rule (with_rule framing_app strict_rule) places_rule
+
+-- the same with `--force --json --debug FILE`
 abbrev pub find_app : App
-find_app = with_rule (with_rule (with_rule (with_rule (with_rule framing_app strict_rule) places_rule) force_rule) json_rule) debug_rule
+find_app = with_rule (with_rule (with_rule marking_app force_rule) json_rule) debug_rule
 
 -- `check FILE.. --json --debug FILE`
 abbrev pub check_app : App

@@ -3,7 +3,7 @@
 ghost use Rattle.std.specs.Prelude.{◌≡◌, IfOk, false};
 ghost use Rattle.clap.specs.Words.{app_of, rule_of};
 ghost use Rattle.clap.specs.declared.builder.command.Command.TheViews.{out-Command as fields_of};
-ghost use Rattle.zcommand.specs.CommandLine.{frames_rule, framing_app, frontless_app, bare_app, budget_rule, certificate_rule, address_rule, certifying_app, check_app, code_rule, debug_rule, explain_app, file_rule, files_app, files_rule, find_app, force_rule, info_app, json_rule, lenient_rule, list_app, many_app, naming_app, no_save_rule, out_rule, output_rule, packed_rule, places_rule, plain_rule, play_app, playing_app, record_rule, replay_rule, save_rule, saveless_app, seed_rule, show_app, showing_app, status_rule, story_rule, strict_app, strict_rule, tell_rule, transcript_rule, unpack_app, width_rule, word_rule, zpc_app};
+ghost use Rattle.zcommand.specs.CommandLine.{frames_rule, framing_app, frontless_app, bare_app, budget_rule, certificate_rule, address_rule, certifying_app, check_app, code_rule, debug_rule, explain_app, file_rule, files_app, files_rule, find_app, force_rule, info_app, json_rule, lenient_rule, list_app, many_app, marking_app, naming_app, no_save_rule, out_rule, output_rule, packed_rule, places_rule, plain_rule, play_app, playing_app, record_rule, replay_rule, save_rule, saveless_app, seed_rule, show_app, showing_app, status_rule, story_rule, strict_app, strict_rule, tell_rule, transcript_rule, unpack_app, width_rule, word_rule, zpc_app};
 
 use crate::words::{MOST_FRAMES, MOST_WIDTH};
 use clap::builder::ValueParser;
@@ -147,9 +147,16 @@ fn find<'a>(alloc: Global) -> Result<clap::Command<'a>, AllocError>
     ensures app { IfOk result (λ find. app_of find ≡ find_app) }
     ensures local { IfOk result (λ find. (fields_of find).has_globals ≡ false) }
 {
-    let find = framing(alloc)?.arg(strict(alloc))?;
-    let find = find.arg(places(alloc))?.arg(force(alloc))?;
+    let find = marking(alloc)?.arg(force(alloc))?;
     find.arg(json(alloc))?.arg(debug(alloc))
+}
+
+/// `find` without what is said of the file of the certificate, of the answer and of the source.
+fn marking<'a>(alloc: Global) -> Result<clap::Command<'a>, AllocError>
+    ensures app { IfOk result (λ find. app_of find ≡ marking_app) }
+    ensures local { IfOk result (λ find. (fields_of find).has_globals ≡ false) }
+{
+    framing(alloc)?.arg(strict(alloc))?.arg(places(alloc))
 }
 
 /// `find` without its flags.
