@@ -2,7 +2,7 @@
 
 ghost use Rattle.std.specs.Prelude.{◌≡◌, ◌++◌, IfOk, OnOk, flat_map, option_map};
 ghost use Rattle.std.specs.Io.BufRead.{strip_last};
-ghost use Rattle.zexplain.specs.Short.{all_codes, codes_of_certificates, codes_of_play, codes_of_stories, first_line, heading, in_short_of, shortened};
+ghost use Rattle.zexplain.specs.Short.{all_codes, codes_of_certificates, codes_of_debugging, codes_of_play, codes_of_stories, first_line, heading, in_short_of, shortened};
 
 use crate::certificates::{FINDING, FITTING, READING};
 use crate::debugging::DEBUGGING;
@@ -30,7 +30,7 @@ pub fn all_codes(alloc: Global) -> Result<Vec<u8>, AllocError>
     push_stories(&mut text)?;
     push_certificates(&mut text)?;
     push_play(&mut text)?;
-    push_headings(&DEBUGGING, &mut text)?;
+    push_debugging(&mut text)?;
     Ok(text)
 }
 
@@ -63,6 +63,12 @@ fn push_play(text: &mut Vec<u8>) -> Result<(), AllocError>
     push_headings(&PLAYING, text)?;
     push_headings(&KEEPING, text)?;
     Ok(())
+}
+
+fn push_debugging(text: &mut Vec<u8>) -> Result<(), AllocError>
+    ensures { OnOk result (text.new.items ≡ text.old.items ++ codes_of_debugging) }
+{
+    push_headings(&DEBUGGING, text)
 }
 
 /// Adds the first line of each entry's text, with its end.
