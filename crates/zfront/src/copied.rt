@@ -1,10 +1,10 @@
 //! A sink of which a copy is kept.
 
 ghost use Rattle.std.specs.Option.{ghost_name_of, option_copied_mut};
-ghost use Rattle.std.specs.Prelude.{◌≡◌, ◌<◌, ◌≤◌, true, IfOk, IsNone, length, option_and_then};
+ghost use Rattle.std.specs.Prelude.{◌≡◌, ◌<◌, ◌≤◌, true, IfOk, IsNone, length, option_and_then, option_map};
 ghost use Rattle.std.specs.Io.KnownBytes.{Keeps, WriteAppends};
 ghost use Rattle.zfault.specs.Devices.{CountsFailure, HandsOn, LetsWait};
-ghost use Rattle.zfront.specs.Records.{Records};
+ghost use Rattle.zfront.specs.Records.{EndsByFailure, Records};
 ghost use Rattle.zfront.specs.Copies.{below_of, copy_name, copy_of, is_whole};
 
 use crate::record::Record;
@@ -58,6 +58,7 @@ impl<W: Sink, C: Sink> Sink for Copied<'_, '_, W, C> {
         ensures below_is { self.new.below.ghost_name ≡ self.old.below.ghost_name }
         ensures copy_is { copy_name self.new ≡ copy_name self.old }
         ensures copied { Records (option_and_then C.contents (copy_of self.old)) (option_and_then C.contents (copy_of self.new)) (is_whole self.old) (is_whole self.new) result piece.now }
+        ensures ends { EndsByFailure (option_map C.failures (copy_of self.old)) (option_map C.failures (copy_of self.new)) (is_whole self.old) (is_whole self.new) }
         ensures nowhere { IsNone (copy_of self.old) → is_whole self.new ≡ is_whole self.old }
     {
         let count = self.below.write(piece)?;

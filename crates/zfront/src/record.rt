@@ -1,8 +1,8 @@
 //! Where bytes that pass are kept.
 
 ghost use Rattle.std.specs.Option.{ghost_name_of, option_copied_mut};
-ghost use Rattle.std.specs.Prelude.{◌≡◌, true, IsNone, option_and_then};
-ghost use Rattle.zfront.specs.Records.{RecordsBytes};
+ghost use Rattle.std.specs.Prelude.{◌≡◌, true, IsNone, option_and_then, option_map};
+ghost use Rattle.zfront.specs.Records.{EndsByFailure, RecordsBytes};
 
 use zfault::{Sink, write_whole};
 
@@ -37,6 +37,7 @@ impl<W: Sink> Record<'_, W> {
     pub(crate) fn keep(&mut self, bytes: &[u8])
         ensures copy_is { ghost_name_of self.new.copy ≡ ghost_name_of self.old.copy }
         ensures copied { RecordsBytes (option_and_then W.contents (option_copied_mut self.old.copy)) (option_and_then W.contents (option_copied_mut self.new.copy)) self.old.whole self.new.whole bytes.now }
+        ensures ends { EndsByFailure (option_map W.failures (option_copied_mut self.old.copy)) (option_map W.failures (option_copied_mut self.new.copy)) self.old.whole self.new.whole }
         ensures nowhere { IsNone self.old.copy → self.new.whole ≡ self.old.whole }
     {
         if self.whole {

@@ -1,10 +1,10 @@
 //! A source that is recorded.
 
 ghost use Rattle.std.specs.Option.{ghost_name_of, option_copied_mut};
-ghost use Rattle.std.specs.Prelude.{◌≡◌, ◌≤◌, true, IfOk, IsNone, Ok, length, option_and_then};
+ghost use Rattle.std.specs.Prelude.{◌≡◌, ◌≤◌, true, IfOk, IsNone, Ok, length, option_and_then, option_map};
 ghost use Rattle.std.specs.Io.KnownBytes.{ReadConsumes};
 ghost use Rattle.zfault.specs.Devices.{ChangesFront, CountsFailure};
-ghost use Rattle.zfront.specs.Records.{Records};
+ghost use Rattle.zfront.specs.Records.{EndsByFailure, Records};
 ghost use Rattle.zfront.specs.Sources.{copy_name, copy_of, is_whole, source_of};
 
 use crate::record::Record;
@@ -54,6 +54,7 @@ impl<S: Source, W: Sink> Source for Recorded<'_, '_, S, W> {
         ensures source_is { self.new.source.ghost_name ≡ self.old.source.ghost_name }
         ensures copy_is { copy_name self.new ≡ copy_name self.old }
         ensures copied { Records (option_and_then W.contents (copy_of self.old)) (option_and_then W.contents (copy_of self.new)) (is_whole self.old) (is_whole self.new) result buffer.new }
+        ensures ends { EndsByFailure (option_map W.failures (copy_of self.old)) (option_map W.failures (copy_of self.new)) (is_whole self.old) (is_whole self.new) }
         ensures nowhere { IsNone (copy_of self.old) → is_whole self.new ≡ is_whole self.old }
     {
         if buffer.is_empty() {

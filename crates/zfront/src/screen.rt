@@ -1,6 +1,6 @@
 //! Where the text of a play is shown.
 
-ghost use Rattle.std.specs.Prelude.{◌≡◌, ◌<◌, ◌≤◌, IfOk, OnErr, OnOk, IsOk, length, take};
+ghost use Rattle.std.specs.Prelude.{◌≡◌, ◌<◌, ◌≤◌, IfOk, OnErr, IsOk, length, take};
 ghost use Rattle.std.specs.Io.KnownBytes.{Keeps, WriteAppends};
 ghost use Rattle.zfault.specs.Devices.{CountsFailure, HandsOn, LetsWait};
 ghost use Rattle.zfront.specs.Screens.{EndsHere, GivesSomeHere, PassesHere, begins_with, below_name, below_of, known_bytes, owed_of, waits_here};
