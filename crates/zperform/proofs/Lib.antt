@@ -22,6 +22,7 @@ mod Worked
 mod WorkedClaims
 mod WorkedExcusing
 mod WorkedMarks
+mod WorkedOperands
 mod WorkedPlays
 mod WorkedShowing
 mod WorkedUnpacking

@@ -26,7 +26,8 @@ use Rattle.zcheck.specs.declared.refusal.StoryRule.TheVariants as rules
 use Rattle.zperform.specs.Accepting.{HoldsCertificate, HoldsStory, IsFedWhole, IsNoCertificate, IsNoStory, version_of}
 use Rattle.zperform.specs.Playing.{Reads}
 use Rattle.zperform.specs.Report.{problem_of_reading}
-use Rattle.zperform.specs.Showing.{IsAnswer, IsSpelled, IsToldOf, IsUnshown, answer_line, fact_line, first_line, frame_text, numbered, spelled_line}
+use Rattle.zperform.specs.Numbered.{numbered}
+use Rattle.zperform.specs.Showing.{IsAnswer, IsSpelled, IsToldOf, IsUnshown, answer_line, fact_line, first_line, frame_text, told_line}
 use Rattle.zperform.specs.declared.outcome.Failure.TheVariants.{File, Read, Write, Memory}
 use Rattle.zperform.specs.declared.outcome.Problem.{Problem}
 use Rattle.zperform.specs.declared.outcome.Problem.TheVariants.{Refused, Unreadable, BreaksStory, BreaksInstruction, Unlisted, Unfound, Occupied, Failed, Packed}
@@ -91,9 +92,9 @@ module _ {V : Type 0} (o : SetOperations V) (set_text : V → List ℕ) (story :
   pub told_there : (spelled : Option Spelled) (answer : Option Rule) → IfNone spelled ((s : Spelled) → IsThere story address s → ⊥) → IfSome spelled (IsThere story address)
       → IfNone answer ((entry : Entry V) → (claims_of o c).entry address ≡ Some entry → (rule : Rule) → Keeps o (claims_of o c) story address entry rule)
       → IfSome answer (λ rule. (entry : Entry V) × ((claims_of o c).entry address ≡ Some entry) × IsLowestBroken o (claims_of o c) story address entry rule)
-      → IsToldOf o set_text story c address (listed_at c.instructions address) (spelled_line i spelled ++ frame_text set_text i ++ flat_map (fact_line set_text) (facts_at c.facts address) ++ answer_line answer)
+      → IsToldOf o set_text story c address (listed_at c.instructions address) (told_line i spelled ++ frame_text set_text i ++ flat_map (fact_line set_text) (facts_at c.facts address) ++ answer_line answer)
   told_there spelled answer none some kept broken =
-      subst (λ (l : Option (Instruction V)). IsToldOf o set_text story c address l (spelled_line i spelled ++ frame_text set_text i ++ flat_map (fact_line set_text) (facts_at c.facts address) ++ answer_line answer)) (sym listed)
+      subst (λ (l : Option (Instruction V)). IsToldOf o set_text story c address l (told_line i spelled ++ frame_text set_text i ++ flat_map (fact_line set_text) (facts_at c.facts address) ++ answer_line answer)) (sym listed)
       (record { spelled = spelled; there = spelled_so o story c address spelled none some; answer = answer; judged = answered answer kept broken; lines = refl })
 
 -- ---- why a certificate isn't shown

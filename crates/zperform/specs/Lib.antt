@@ -8,6 +8,8 @@ pub mod Playing
 pub mod Accepting
 pub mod Keeping
 pub mod Listing
+pub mod Numbered
+pub mod Operands
 pub mod Showing
 pub mod Marking
 pub mod Excusing

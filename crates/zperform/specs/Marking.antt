@@ -22,7 +22,7 @@ use Rattle.zperform.specs.Listing.{listed_text}
 use Rattle.zperform.specs.Report.{place_text}
 use Rattle.zperform.specs.declared.outcome.Outcome.{Outcome}
 use Rattle.zperform.specs.declared.outcome.Outcome.TheVariants.{Listed, Stopped}
-use Rattle.zperform.specs.Showing.{IsAnswer, IsSpelled, code_text, explained_text, spelled_line}
+use Rattle.zperform.specs.Showing.{IsAnswer, IsSpelled, code_text, explained_text, spelled_line, told_line}
 
 -- why an instruction is marked, if it is: which of its rules is broken first, if one is
 abbrev pub reason_line : Bool → Option Rule → List ℕ
@@ -38,9 +38,14 @@ is_chosen marked_alone i = i.is_marked || not marked_alone
 abbrev pub listed_object : {V : Type 0} → Instruction V → Option Spelled → Option Rule → List ℕ
 listed_object i spelled answer = listed_line (place_text (pos i.address)) i.routine (option_map (λ instruction. name_of instruction.opcode) spelled) i.is_marked (option_map code_text answer)
 
+-- its own line, with its operands where it is marked
+abbrev pub own_line : {V : Type 0} → Bool → Instruction V → Option Spelled → List ℕ
+own_line false i spelled = spelled_line i spelled
+own_line true i spelled = told_line i spelled
+
 -- what is told of it: lines, or an object
 abbrev pub mark_text : {V : Type 0} → Bool → Instruction V → Option Spelled → Option Rule → List ℕ
-mark_text false i spelled answer = spelled_line i spelled ++ reason_line i.is_marked answer
+mark_text false i spelled answer = own_line i.is_marked i spelled ++ reason_line i.is_marked answer
 mark_text true i spelled answer = listed_object i spelled answer
 
 module _ {V : Type 0} (o : SetOperations V) (story : LoadedStory) (c : Certificate V) (json : Bool) where

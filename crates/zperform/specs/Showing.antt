@@ -8,6 +8,7 @@ use Rattle.std.specs.Str.Parse.{digits_value}
 use Rattle.zfault.specs.Devices.{AppendsBeginning}
 use Rattle.zstory.specs.LoadedStory.{LoadedStory, identity_of}
 use Rattle.zcode.specs.Instruction.{Instruction as Spelled}
+use Rattle.zcode.specs.Names.{name_of}
 use Rattle.zdomain.specs.Domain.{SetOperations}
 use Rattle.zdomain.specs.Interval.{interval_operations, signed}
 use Rattle.zdomain.specs.Values.{values_operations}
@@ -30,6 +31,8 @@ use Rattle.zcheck.specs.declared.refusal.StoryRule.TheVariants.{Identity}
 use Rattle.zexplain.specs.Texts.{explanation_of}
 use Rattle.zperform.specs.Accepting.{HoldsCertificate, HoldsStory, IsUnaccepted, Stops}
 use Rattle.zperform.specs.Listing.{record_line}
+use Rattle.zperform.specs.Numbered.{numbered}
+use Rattle.zperform.specs.Operands.{operands_text}
 use Rattle.zperform.specs.Report.{place_text}
 use Rattle.zperform.specs.declared.outcome.Problem.{Problem}
 use Rattle.zperform.specs.declared.outcome.Problem.TheVariants.{BreaksStory, BreaksInstruction}
@@ -69,11 +72,6 @@ abbrev pub values_kind : List ℕ
 values_kind = codes "intervals and lists"
 
 -- ---- lines
-
--- a line for each, which are numbered from a number on
-abbrev pub numbered : {A : Type 0} → (ℕ → A → List ℕ) → ℕ → List A → List ℕ
-numbered line n [] = []
-numbered line n (x ∷ xs) = line n x ++ numbered line (suc n) xs
 
 -- a range of bytes that stay as they are
 abbrev pub range_line : Range → List ℕ
@@ -135,6 +133,16 @@ abbrev pub spelled_line : {V : Type 0} → Instruction V → Option Spelled → 
 spelled_line i (Some instruction) = record_line (record { address = i.address; routine = i.routine; instruction = instruction })
 spelled_line i None = bare_line i.address i.routine
 
+-- an instruction with its operands: its address, its routine's number, the name of its opcode, and these
+abbrev pub whole_line : ℕ → ℕ → Spelled → List ℕ
+whole_line address routine instruction =
+    place_text (pos address) ++ codes " " ++ decimal routine ++ codes " " ++ name_of instruction.opcode ++ operands_text instruction.opcode instruction.operands ++ 10 ∷ []
+
+-- the instruction so, where one stands there
+abbrev pub told_line : {V : Type 0} → Instruction V → Option Spelled → List ℕ
+told_line i (Some instruction) = whole_line i.address i.routine instruction
+told_line i None = bare_line i.address i.routine
+
 -- the first line of a text, without its end
 abbrev pub first_line : List ℕ → List ℕ
 first_line text = take_while (λ byte. not (byte == 10)) text
@@ -171,7 +179,7 @@ module _ {V : Type 0} (o : SetOperations V) (set_text : V → List ℕ) (story :
     pub there : IsSpelled o story c address spelled
     pub answer : Option Rule
     pub judged : IsAnswer o story c address i answer
-    pub lines : text ≡ spelled_line i spelled ++ frame_text set_text i ++ flat_map (fact_line set_text) (facts_at c.facts address) ++ answer_line answer
+    pub lines : text ≡ told_line i spelled ++ frame_text set_text i ++ flat_map (fact_line set_text) (facts_at c.facts address) ++ answer_line answer
 
   -- what is said of an address
   abbrev pub IsToldOf : ℕ → Option (Instruction V) → List ℕ → Type 0

@@ -5,9 +5,11 @@ ghost use Rattle.zcert.specs.Certificate.{edition_of};
 ghost use Rattle.zcert.specs.Facts.{facts_at};
 ghost use Rattle.zcert.specs.Format.{version_of};
 ghost use Rattle.zcert.specs.Listed.{listed_at, seen};
-ghost use Rattle.zperform.specs.Showing.{IsEnd, IsShown, IsToldOf, answer_line, claims_text, explained_text, fact_line, facts_line, first_line, bare_line, frame_text, heading_text, limit_line, numbered, range_line, routine_line, routine_place, set_line, spelled_line, unlisted_line};
+ghost use Rattle.zperform.specs.Numbered.{numbered};
+ghost use Rattle.zperform.specs.Showing.{IsEnd, IsShown, IsToldOf, answer_line, claims_text, explained_text, fact_line, facts_line, first_line, bare_line, frame_text, heading_text, limit_line, range_line, routine_line, routine_place, set_line, spelled_line, unlisted_line};
 
 use crate::listing::{add_address, add_line};
+use crate::operands::add_told;
 use crate::told::Told;
 use itoa::Buffer;
 use std::alloc::{AllocError, Global};
@@ -19,7 +21,7 @@ use zrule::{Rule, instruction_there, rule_at};
 use zstory::Story;
 
 /// The number of the first global's variable (Z 6.2).
-const FIRST_GLOBAL: u8 = 16;
+pub const FIRST_GLOBAL: u8 = 16;
 
 /// What a certificate says of a story; with an address also what it says there, and whether that holds, and else how many instructions
 /// it lists.
@@ -235,7 +237,7 @@ fn add_place<V: Told>(
         add_unlisted(address, text)?;
         return Ok(());
     };
-    add_spelled(&listed, instruction_there(story, address), text)?;
+    add_told(&listed, instruction_there(story, address), text)?;
     add_frame(&listed, text)?;
     add_facts(certificate.facts_at(address), text)?;
     add_answer(alloc, rule_at(story, certificate, address), text)?;
@@ -274,7 +276,7 @@ pub fn add_spelled<V: Told>(
 }
 
 /// Adds that no instruction stands at a listed address.
-fn add_unspelled(address: u32, routine: u16, text: &mut Vec<u8>) -> Result<(), AllocError>
+pub fn add_unspelled(address: u32, routine: u16, text: &mut Vec<u8>) -> Result<(), AllocError>
     ensures { IfOk result (λ _. text.new.items ≡ text.old.items ++ bare_line address routine) }
 {
     add_address(address, text)?;

@@ -16,6 +16,7 @@ mod informing;
 mod listing;
 mod marking;
 mod message;
+mod operands;
 mod outcome;
 mod performing;
 mod playing;

@@ -3,10 +3,11 @@
 ghost use Rattle.std.specs.Prelude.{◌≡◌, ◌++◌, ◌&&◌, List, ℕ, IfOk, not, option_map, string_bytes, true};
 ghost use Rattle.zcert.specs.Listed.{seen};
 ghost use Rattle.zcode.specs.Names.{name_of};
-ghost use Rattle.zperform.specs.Marking.{AreMarksOf, listed_object, mark_text, reason_line};
-ghost use Rattle.zperform.specs.Showing.{IsAnswer, code_text, spelled_line};
+ghost use Rattle.zperform.specs.Marking.{AreMarksOf, listed_object, mark_text, own_line, reason_line};
+ghost use Rattle.zperform.specs.Showing.{IsAnswer, code_text};
 
 use crate::claims::{add_explained, add_spelled};
+use crate::operands;
 use crate::told::Told;
 use crate::verdict::{lent, numbered};
 use std::alloc::{AllocError, Global};
@@ -43,7 +44,7 @@ pub fn add_marks<V: Told>(
         }
         let answer = answer_of(story, &tables, certificate, &listed, index + 1, &mut ends);
         let there = instruction_there(story, listed.address);
-        add_told(alloc, &listed, there, answer, json, text)?;
+        add_one(alloc, &listed, there, answer, json, text)?;
     }
     Ok(())
 }
@@ -76,7 +77,7 @@ fn answer_of<V: Told>(
 }
 
 /// Adds what is told of an instruction: its lines, or its object.
-fn add_told<V: Told>(
+fn add_one<V: Told>(
     alloc: Global,
     listed: &Instruction<'_, V>,
     there: Option<Instr>,
@@ -140,7 +141,7 @@ fn rule_text(alloc: Global, rule: Option<Rule>) -> Result<Option<String>, AllocE
     }
 }
 
-/// Adds the line of an instruction, and if it is marked why.
+/// Adds the line of an instruction, and if it is marked its operands and why.
 fn add_marked<V: Told>(
     alloc: Global,
     listed: &Instruction<'_, V>,
@@ -148,13 +149,14 @@ fn add_marked<V: Told>(
     answer: Option<Rule>,
     text: &mut Vec<u8>,
 ) -> Result<(), AllocError>
-    ensures { IfOk result (λ _. text.new.items ≡ text.old.items ++ (spelled_line (seen listed.now) there ++ reason_line listed.now.is_marked answer)) }
+    ensures { IfOk result (λ _. text.new.items ≡ text.old.items ++ (own_line listed.now.is_marked (seen listed.now) there ++ reason_line listed.now.is_marked answer)) }
 {
-    add_spelled(listed, there, text)?;
     if listed.is_marked {
-        add_reason(alloc, answer, text)?;
+        operands::add_told(listed, there, text)?;
+        add_reason(alloc, answer, text)
+    } else {
+        add_spelled(listed, there, text)
     }
-    Ok(())
 }
 
 /// Adds why an instruction is marked.

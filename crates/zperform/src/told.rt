@@ -96,7 +96,7 @@ fn add_others(words: &[u16], text: &mut Vec<u8>) -> Result<(), AllocError>
 }
 
 /// Adds a word as a signed number.
-fn add_number(word: u16, text: &mut Vec<u8>) -> Result<(), AllocError>
+pub fn add_number(word: u16, text: &mut Vec<u8>) -> Result<(), AllocError>
     ensures { IfOk result (λ _. text.new.items ≡ text.old.items ++ signed_decimal (signed word)) }
 {
     text.extend_from_slice(Buffer::new().format(word.cast_signed()).as_bytes())

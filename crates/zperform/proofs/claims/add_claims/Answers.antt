@@ -1,7 +1,8 @@
 use Rattle.std.proofs.Common.{◌≡◌, ℕ, List, ◌++◌, IfOk, codes, flat_map, subst, rules}
 use Rattle.zcert.specs.Certificate.{edition_of}
 use Rattle.zcert.specs.Format.{version_of}
-use Rattle.zperform.specs.Showing.{claims_text, heading_text, limit_line, numbered, range_line, routine_line, set_line}
+use Rattle.zperform.specs.Numbered.{numbered}
+use Rattle.zperform.specs.Showing.{claims_text, heading_text, limit_line, range_line, routine_line, set_line}
 use Rattle.zperform.proofs.ShowLemmas.{five_added}
 use Rattle.zperform.proofs.claims.add_claims.Goals as goal
 

@@ -1,5 +1,6 @@
 use Rattle.std.proofs.Common.{◌≡◌, ◌∙◌, ◌+◌, ◌<◌, ◌++◌, ℕ, List, length, take, sym, ap, append_assoc, rules, arith}
-use Rattle.zperform.specs.Showing.{numbered, routine_line}
+use Rattle.zperform.specs.Numbered.{numbered}
+use Rattle.zperform.specs.Showing.{routine_line}
 use Rattle.zperform.proofs.ShowLemmas.{numbered_more}
 use Rattle.zperform.proofs.claims.add_routines.Goals as goal
 

@@ -1,5 +1,6 @@
 use Rattle.std.proofs.Common.{◌≡◌, ◌++◌, take}
-use Rattle.zperform.specs.Showing.{numbered, set_line}
+use Rattle.zperform.specs.Numbered.{numbered}
+use Rattle.zperform.specs.Showing.{set_line}
 use Rattle.zperform.proofs.claims.add_sets.Given as goal
 
 -- the lines so far are those of the first sets

@@ -16,10 +16,10 @@ loop-index-preserved g c =
     let i = seen c.instruction-listed.result in
     let there = c.instruction_there-there.ensures in
     let more = mark_text c.args.json i c.instruction_there-there.result c.answer_of-answer.result in
-    let added : c.add_told.new.text.items ≡ c.loop-index.text.items ++ more = search rules in
+    let added : c.add_one.new.text.items ≡ c.loop-index.text.items ++ more = search rules in
     let kept : c.is_left_out.result ≡ false = cc in
     record {
-      told = tells_more o story certificate c.args.json c.args.marked_alone c.loop-index.index i c.instruction-listed.ensures.value c.args.text.now.items c.loop-index.text.items c.loop-index.invariant.told c.add_told.new.text.items more
+      told = tells_more o story certificate c.args.json c.args.marked_alone c.loop-index.index i c.instruction-listed.ensures.value c.args.text.now.items c.loop-index.text.items c.loop-index.invariant.told c.add_one.new.text.items more
           (chosen_if i.is_marked c.args.marked_alone (sym c.is_left_out.ensures ∙ kept))
           (record { spelled = c.instruction_there-there.result; there = spelled_so o story certificate i.address c.instruction_there-there.result there.none there.some; answer = c.answer_of-answer.result; judged = c.answer_of-answer.ensures.answer; lines = refl }) added;
       same = c.answer_of-answer.ensures.memory ∙ c.loop-index.invariant.same;
