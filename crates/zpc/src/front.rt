@@ -2,12 +2,14 @@
 
 use crate::asking::Asked;
 use crate::keeping::{open, open_again};
+use crate::sources::{Undebugged, debug_info, refuse};
 use std::alloc::Global;
 use std::env;
 use std::io::{self, IsTerminal, Write};
 use std::rt::Runtime;
 use zfault::{FromRead, Sink, Source, ToWrite};
-use zfront::{Aside, Copied, Cursor, Followed, Lined, Recorded, Screen, Shown, Typed};
+use zdebug::DebugInfo;
+use zfront::{Aside, Copied, Cursor, Followed, Lined, Recorded, Screen, Shown, Sourced, Typed};
 use zperform::{
     Action, Blame, Cause, Disk, Failure, Files, Outcome, Problem, Speech, fail, perform, read_file,
     report,
@@ -16,9 +18,10 @@ use zperform::{
 /// The most bytes that are read of a file of lines.
 const REPLAY_LIMIT: usize = 1 << 24;
 
-/// How many columns a terminal is taken to have that doesn't say so, and the most that are believed.
+/// How many columns a terminal is taken to have that doesn't say so.
 const COLUMNS: u16 = 80;
 
+/// The most columns that are believed.
 const MOST_COLUMNS: u16 = 1000;
 
 /// The files that text and lines are kept in, as far as there are any.
@@ -32,14 +35,42 @@ struct KeptFiles<F> {
     transcript_lines: Option<ToWrite<F>>,
 }
 
-/// Does what the words ask for, and answers the exit status: a play with the devices that it asks for, which are opened first.
+/// What the devices of a command need to know.
+#[derive(Clone, Copy)]
+struct Context<'a> {
+    rt: &'a HostRuntime,
+    words: &'a [&'a str],
+    /// What a play asks for, if the command is one.
+    asked: Option<Asked<'a>>,
+    /// The source's lines and names, if they are told.
+    info: Option<&'a DebugInfo>,
+    /// Where the cursor of a terminal stands.
+    cursor: &'a Cursor,
+}
+
+impl<'a> Context<'a> {
+    /// The source's lines and names in what is written: a play's text tells none.
+    fn written_info(self) -> Option<&'a DebugInfo> {
+        match self.asked {
+            Some(_) => None,
+            None => self.info,
+        }
+    }
+}
+
+/// Does what the words ask for, and answers the exit status: with the devices that it asks for, whose files are opened first.
 pub fn carry_out<E: Sink>(
     rt: &HostRuntime,
     words: &[&str],
     asked: Option<Asked<'_>>,
     errors: &mut E,
 ) -> u8 {
-    let mut files = Disk::new(rt);
+    let mut files = Disk::new(rt, shows_progress(rt, words));
+    let info = match debug_info(rt.alloc(), words, &mut files) {
+        Ok(info) => info,
+        Err(Undebugged::Unread(problem)) => return stop(rt, problem, files.blame(), errors),
+        Err(Undebugged::Refused(error)) => return refuse(error, speech_to(rt), errors),
+    };
     let replayed = match replayed(rt.alloc(), asked, &mut files) {
         Ok(replayed) => replayed,
         Err(problem) => return stop(rt, problem, files.blame(), errors),
@@ -47,9 +78,14 @@ pub fn carry_out<E: Sink>(
     match kept(rt, asked) {
         Ok(kept) => {
             let cursor = Cursor::new(is_one_terminal(rt));
-            with_output(
-                rt, words, asked, replayed, kept, &mut files, &cursor, errors,
-            )
+            let context = Context {
+                rt,
+                words,
+                asked,
+                info: info.as_ref(),
+                cursor: &cursor,
+            };
+            with_output(context, replayed, kept, &mut files, errors)
         }
         Err(blame) => stop(rt, Problem::Failed(Failure::File), Some(&blame), errors),
     }
@@ -104,78 +140,81 @@ struct Ended {
     is_recorded: bool,
 }
 
-/// Does what the words ask for with text that is shown on the output, and moves the cursor.
+/// Does what the words ask for with text that goes to the output, and tells of the source.
 fn with_output<K: Write + Drop, F: Files, E: Sink>(
-    rt: &HostRuntime,
-    words: &[&str],
-    asked: Option<Asked<'_>>,
+    context: Context<'_>,
     replayed: Vec<u8>,
     kept: KeptFiles<K>,
     files: &mut F,
-    cursor: &Cursor,
     errors: &mut E,
 ) -> u8 {
-    let mut output = ToWrite::new(rt.stdout());
-    let mut shown = Shown::new(&mut output, cursor);
-    with_errors(
-        rt, words, asked, replayed, kept, files, cursor, &mut shown, errors,
-    )
+    let mut output = ToWrite::new(context.rt.stdout());
+    let mut sourced = Sourced::new(context.rt.alloc(), &mut output, context.written_info());
+    with_shown(context, replayed, kept, files, &mut sourced, errors)
+}
+
+/// Does it with text that moves the cursor.
+fn with_shown<K: Write + Drop, F: Files, W: Sink, E: Sink>(
+    context: Context<'_>,
+    replayed: Vec<u8>,
+    kept: KeptFiles<K>,
+    files: &mut F,
+    output: &mut W,
+    errors: &mut E,
+) -> u8 {
+    let mut shown = Shown::new(output, context.cursor);
+    with_errors(context, replayed, kept, files, &mut shown, errors)
 }
 
 /// Does it with errors that begin a line.
 fn with_errors<K: Write + Drop, F: Files, W: Sink, E: Sink>(
-    rt: &HostRuntime,
-    words: &[&str],
-    asked: Option<Asked<'_>>,
+    context: Context<'_>,
     replayed: Vec<u8>,
     kept: KeptFiles<K>,
     files: &mut F,
-    cursor: &Cursor,
     shown: &mut W,
     errors: &mut E,
 ) -> u8 {
-    let mut told = Aside::new(errors, cursor);
-    with_screen(
-        rt, words, asked, replayed, kept, files, cursor, shown, &mut told,
-    )
+    let mut told = Aside::new(errors, context.cursor);
+    with_sources(context, replayed, kept, files, shown, &mut told)
+}
+
+/// Does it with errors that tell of the source.
+fn with_sources<K: Write + Drop, F: Files, W: Sink, E: Sink>(
+    context: Context<'_>,
+    replayed: Vec<u8>,
+    kept: KeptFiles<K>,
+    files: &mut F,
+    shown: &mut W,
+    errors: &mut E,
+) -> u8 {
+    let mut sourced = Sourced::new(context.rt.alloc(), errors, context.info);
+    with_screen(context, replayed, kept, files, shown, &mut sourced)
 }
 
 /// Does it with text that is shown as a play asks, and says at the end where a file isn't whole.
 fn with_screen<K: Write + Drop, F: Files, W: Sink, E: Sink>(
-    rt: &HostRuntime,
-    words: &[&str],
-    asked: Option<Asked<'_>>,
+    context: Context<'_>,
     replayed: Vec<u8>,
     kept: KeptFiles<K>,
     files: &mut F,
-    cursor: &Cursor,
     shown: &mut W,
     errors: &mut E,
 ) -> u8 {
-    let Ok(mut screen) = Screen::new(rt.alloc(), shown, width(rt, asked)) else {
+    let width = width(context.rt, context.asked);
+    let Ok(mut screen) = Screen::new(context.rt.alloc(), shown, width) else {
         return fail(Failure::Memory, errors);
     };
-    let ended = with_copy(
-        rt,
-        words,
-        replayed,
-        kept,
-        files,
-        cursor,
-        &mut screen,
-        errors,
-    );
-    say_unkept(rt, asked, ended, errors)
+    let ended = with_copy(context, replayed, kept, files, &mut screen, errors);
+    say_unkept(context, ended, errors)
 }
 
 /// Does it with text of which a copy is kept, if it is to be.
 fn with_copy<K: Write + Drop, F: Files, W: Sink, E: Sink>(
-    rt: &HostRuntime,
-    words: &[&str],
+    context: Context<'_>,
     replayed: Vec<u8>,
     kept: KeptFiles<K>,
     files: &mut F,
-    cursor: &Cursor,
     screen: &mut W,
     errors: &mut E,
 ) -> Ended {
@@ -184,64 +223,68 @@ fn with_copy<K: Write + Drop, F: Files, W: Sink, E: Sink>(
         mut transcript,
         transcript_lines,
     } = kept;
-    let mut writer = Copied::new(screen, transcript.as_mut());
-    let mut ended = with_lines(
-        rt,
-        words,
+    let lines = Lines {
         replayed,
         record,
-        transcript_lines,
-        files,
-        cursor,
-        &mut writer,
-        errors,
-    );
+        transcript: transcript_lines,
+    };
+    let mut writer = Copied::new(screen, transcript.as_mut());
+    let mut ended = with_lines(context, lines, files, &mut writer, errors);
     ended.is_transcribed = ended.is_transcribed && writer.is_whole();
     ended
 }
 
+/// The lines of a file, which come first, and where lines are kept.
+#[derive(Drop)]
+struct Lines<F> {
+    replayed: Vec<u8>,
+    record: Option<ToWrite<F>>,
+    transcript: Option<ToWrite<F>>,
+}
+
 /// Does it with lines of the input, which a terminal shows as they are typed.
 fn with_lines<K: Write + Drop, F: Files, W: Sink, E: Sink>(
-    rt: &HostRuntime,
-    words: &[&str],
-    replayed: Vec<u8>,
-    record: Option<ToWrite<K>>,
-    transcript: Option<ToWrite<K>>,
+    context: Context<'_>,
+    lines: Lines<K>,
     files: &mut F,
-    cursor: &Cursor,
     writer: &mut W,
     errors: &mut E,
 ) -> Ended {
-    let mut input = FromRead::new(rt.stdin());
-    let mut typed = Typed::new(&mut input, cursor);
-    with_replay(
-        rt, words, replayed, record, transcript, files, &mut typed, writer, errors,
-    )
+    let mut input = FromRead::new(context.rt.stdin());
+    let mut typed = Typed::new(&mut input, context.cursor);
+    with_replay(context, lines, files, &mut typed, writer, errors)
 }
 
 /// Does it with lines of a file before those.
 fn with_replay<K: Write + Drop, F: Files, R: Source, W: Sink, E: Sink>(
-    rt: &HostRuntime,
-    words: &[&str],
-    replayed: Vec<u8>,
-    record: Option<ToWrite<K>>,
-    transcript: Option<ToWrite<K>>,
+    context: Context<'_>,
+    lines: Lines<K>,
     files: &mut F,
     typed: &mut R,
     writer: &mut W,
     errors: &mut E,
 ) -> Ended {
+    let Lines {
+        replayed,
+        record,
+        transcript,
+    } = lines;
     let mut before = FromRead::new(io::Cursor::new(replayed));
-    let mut lines = Followed::new(&mut before, typed);
+    let mut reader = Followed::new(&mut before, typed);
     one_by_one(
-        rt, words, record, transcript, files, &mut lines, writer, errors,
+        context,
+        record,
+        transcript,
+        files,
+        &mut reader,
+        writer,
+        errors,
     )
 }
 
 /// Does it with lines that come one by one.
 fn one_by_one<K: Write + Drop, F: Files, R: Source, W: Sink, E: Sink>(
-    rt: &HostRuntime,
-    words: &[&str],
+    context: Context<'_>,
     record: Option<ToWrite<K>>,
     transcript: Option<ToWrite<K>>,
     files: &mut F,
@@ -251,8 +294,7 @@ fn one_by_one<K: Write + Drop, F: Files, R: Source, W: Sink, E: Sink>(
 ) -> Ended {
     let mut reader = Lined::new(lines);
     with_record(
-        rt,
-        words,
+        context,
         record,
         transcript,
         files,
@@ -264,8 +306,7 @@ fn one_by_one<K: Write + Drop, F: Files, R: Source, W: Sink, E: Sink>(
 
 /// Does it with lines that are recorded, if they are to be.
 fn with_record<K: Write + Drop, F: Files, R: Source, W: Sink, E: Sink>(
-    rt: &HostRuntime,
-    words: &[&str],
+    context: Context<'_>,
     mut record: Option<ToWrite<K>>,
     transcript: Option<ToWrite<K>>,
     files: &mut F,
@@ -274,15 +315,14 @@ fn with_record<K: Write + Drop, F: Files, R: Source, W: Sink, E: Sink>(
     errors: &mut E,
 ) -> Ended {
     let mut reader = Recorded::new(lines, record.as_mut());
-    let mut ended = with_transcript(rt, words, transcript, files, &mut reader, writer, errors);
+    let mut ended = with_transcript(context, transcript, files, &mut reader, writer, errors);
     ended.is_recorded = reader.is_whole();
     ended
 }
 
 /// Does it with lines that the transcript has too, if there is one.
 fn with_transcript<K: Write + Drop, F: Files, R: Source, W: Sink, E: Sink>(
-    rt: &HostRuntime,
-    words: &[&str],
+    context: Context<'_>,
     mut transcript: Option<ToWrite<K>>,
     files: &mut F,
     lines: &mut R,
@@ -291,9 +331,9 @@ fn with_transcript<K: Write + Drop, F: Files, R: Source, W: Sink, E: Sink>(
 ) -> Ended {
     let mut reader = Recorded::new(lines, transcript.as_mut());
     let status = perform(
-        rt.alloc(),
-        words,
-        speech_to(rt),
+        context.rt.alloc(),
+        context.words,
+        speech_to(context.rt),
         files,
         &mut reader,
         writer,
@@ -307,13 +347,8 @@ fn with_transcript<K: Write + Drop, F: Files, R: Source, W: Sink, E: Sink>(
 }
 
 /// Says which of the files isn't whole, and answers the exit status of it, or the one that there was.
-fn say_unkept<E: Sink>(
-    rt: &HostRuntime,
-    asked: Option<Asked<'_>>,
-    ended: Ended,
-    errors: &mut E,
-) -> u8 {
-    let name = match asked {
+fn say_unkept<E: Sink>(context: Context<'_>, ended: Ended, errors: &mut E) -> u8 {
+    let name = match context.asked {
         Some(Asked { front, .. }) if !ended.is_transcribed => front.transcript,
         Some(Asked { front, .. }) if !ended.is_recorded => front.record,
         _ => None,
@@ -321,9 +356,18 @@ fn say_unkept<E: Sink>(
     match name {
         Some(name) => {
             let blame = Blame::new(name, Action::Write, Cause::Other);
-            stop(rt, Problem::Failed(Failure::File), Some(&blame), errors)
+            let problem = Problem::Failed(Failure::File);
+            stop(context.rt, problem, Some(&blame), errors)
         }
         None => ended.status,
+    }
+}
+
+/// Whether it is shown how far a command is: one that may take long, where errors are read on a terminal.
+fn shows_progress(rt: &HostRuntime, words: &[&str]) -> bool {
+    match words.first() {
+        Some(first) => (*first == "find" || *first == "check") && rt.stderr().is_terminal(),
+        None => false,
     }
 }
 

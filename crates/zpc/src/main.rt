@@ -7,10 +7,13 @@ ghost use Rattle.clap.specs.Walk.{texts};
 mod asking;
 mod front;
 mod keeping;
+mod manual;
 mod seed;
+mod sources;
 
 use crate::asking::{asked_by, put_save, save_beside};
 use crate::front::carry_out;
+use crate::manual::{is_manual_asked, tell_manual};
 use crate::seed::{draw, put_seed, random_in, say_seed};
 use std::alloc::{AllocError, Global};
 use std::env;
@@ -42,6 +45,9 @@ fn run(rt: &HostRuntime) -> u8 {
     };
     if !is_free(rt.alloc(), STACK) || !has_stack::<STACK>(arguments.len()) {
         return fail(Failure::Memory, &mut errors);
+    }
+    if is_manual_asked(&arguments) {
+        return tell_manual(&mut ToWrite::new(rt.stdout()), &mut errors);
     }
     let seed = match drawn(rt, &mut arguments) {
         Ok(seed) => seed,

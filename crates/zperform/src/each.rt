@@ -47,7 +47,9 @@ impl<'a, T: Telling, F: Files, W: Sink> Work for Each<'a, T, F, W> {
     ghost Does = { λ old name ended new. (new.telling ≡ old.telling) × (new.json ≡ old.json) × (new.files.ghost_name ≡ old.files.ghost_name) × (new.writer.ghost_name ≡ old.writer.ghost_name) × Steps (T.Tells old.telling.now) old.json (held F.known F.failures F.can_fail F.blamed old.files.now) (held F.known F.failures F.can_fail F.blamed new.files.now) (seen W.contents W.failures W.waits old.writer.now) (seen W.contents W.failures W.waits new.writer.now) name ended };
 
     fn work(&mut self, name: &str) -> Ended {
-        match self.telling.tell(self.alloc, name, self.files) {
+        let told = self.telling.tell(self.alloc, name, self.files);
+        self.files.clear();
+        match told {
             Some((ended, text)) => match write_and_flush(self.writer, &text) {
                 Ok(()) => ended,
                 Err(Failed) => Ended::Unwritten,

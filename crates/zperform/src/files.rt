@@ -12,6 +12,7 @@ ghost use Rattle.zperform.specs.Keeping.{BeginsSo};
 
 use crate::blame::{Action, Blame, Cause, NAME_LIMIT};
 use crate::outcome::{Failure, Problem};
+use crate::progress::Progress;
 use arrayvec::{ArrayString, ArrayVec};
 use itoa::Buffer;
 use std::alloc::Global;
@@ -21,12 +22,13 @@ use std::io::{self, ErrorKind, Read, Seek, SeekFrom, Write};
 use std::os::unix::fs::MetadataExt;
 use std::path::Path;
 use std::rt::Runtime;
+use zfind::Watch;
 
 /// The most bytes that are read of a file in one call.
 pub const PIECE: usize = 4096;
 
-/// Files by name.
-pub trait Files {
+/// Files by name, which are told how far a search for a certificate is.
+pub trait Files: Watch {
     /// The bytes of the file of a name, where they are known.
     ghost known: { Self → List ℕ → Option (List ℕ) } = { λ _ _. None };
 
@@ -71,6 +73,9 @@ pub trait Files {
         ensures blamed { MatchBool result (blamed self.new ≡ blamed self.old) (IsOf name.now Action.Write (blamed self.new)) }
         ensures could { result ≡ false → can_fail self.old name.now ≡ true }
         ensures alike { can_fail self.new ≡ can_fail self.old };
+
+    /// What is shown of how far the work is goes, so that something else can be told.
+    fn clear(&self);
 }
 
 /// A file that is open, and how far it was read.
@@ -89,11 +94,12 @@ pub struct Disk<'a, R: Runtime> {
     last: Option<Opened<R::File>>,
     failures: u64,
     blame: Option<Blame>,
+    progress: Progress<'a, R>,
 }
 
 impl<'a, R: Runtime> Disk<'a, R> {
-    /// The files that the runtime reaches.
-    pub fn new(rt: &'a R) -> Disk<'a, R>
+    /// The files that the runtime reaches. While work on them takes long, how far it is may be shown on the errors.
+    pub fn new(rt: &'a R, shows: bool) -> Disk<'a, R>
         ensures failures { result.failures ≡ 0 }
         ensures blame { result.blame ≡ None }
     {
@@ -102,6 +108,7 @@ impl<'a, R: Runtime> Disk<'a, R> {
             last: None,
             failures: 0,
             blame: None,
+            progress: Progress::new(rt, shows),
         }
     }
 
@@ -160,6 +167,9 @@ impl<'a, R: Runtime> Files for Disk<'a, R> {
     }
 
     fn read_at(&mut self, name: &str, from: u64, buffer: &mut [u8]) -> Option<usize> {
+        if from == 0 {
+            self.progress.opened();
+        }
         match self.read_from(name, from, buffer) {
             Ok(count) => Some(count),
             Err(error) => {
@@ -186,6 +196,16 @@ impl<'a, R: Runtime> Files for Disk<'a, R> {
                 false
             }
         }
+    }
+
+    fn clear(&self) {
+        self.progress.clear();
+    }
+}
+
+impl<'a, R: Runtime> Watch for Disk<'a, R> {
+    fn visited(&self, count: u32) {
+        self.progress.visited(count);
     }
 }
 

@@ -15,7 +15,7 @@ use crate::outcome::{Failure, Outcome, Problem};
 use crate::performing::write_done;
 use std::alloc::{AllocError, Global};
 use zfault::Sink;
-use zfind::{FindError, Found, broken_in_all, find_marked, find_unmarked};
+use zfind::{FindError, Found, Watch, broken_in_all, find_marked, find_unmarked};
 use zstory::Story;
 
 /// What certificate is looked for, and what is told of it.
@@ -84,35 +84,47 @@ pub fn answer_of<F: Files>(
     ensures unwritten { ¬ IsErrOf result (Problem.Failed Failure.Write) }
 {
     let story = open_story(alloc, name, files)?;
-    answer_for(alloc, &story, search)
+    let answer = answer_for(alloc, &story, search, files);
+    files.clear();
+    answer
 }
 
-/// A certificate for a story.
-fn answer_for(alloc: Global, story: &Story, search: Search) -> Result<Answer, Problem>
+/// A certificate for a story, of which someone is told how far the search is.
+fn answer_for<W: Watch>(
+    alloc: Global,
+    story: &Story,
+    search: Search,
+    watch: &W,
+) -> Result<Answer, Problem>
     requires low { IfSome search.frames (λ n. n ≤ 4096) }
     ensures found { IfOk result (λ answer. IsCertificateFor search story.now answer.bytes.items answer.text.items answer.marks) }
     ensures refused { IfErr result (IsUnfound search story.now) }
 {
-    match look_for(alloc, story, search) {
+    match look_for(alloc, story, search, watch) {
         Ok(found) => Ok(Answer {
             bytes: found.write(alloc)?,
             text: text_of(alloc, story, &found, search)?,
             marks: found.marks(),
         }),
-        Err(error) => Err(unfound(alloc, story, search, error)),
+        Err(error) => Err(unfound(alloc, story, search, error, watch)),
     }
 }
 
 /// The certificate that is found for a story, which may mark instructions unless that isn't asked for.
-fn look_for(alloc: Global, story: &Story, search: Search) -> Result<Found, FindError>
+fn look_for<W: Watch>(
+    alloc: Global,
+    story: &Story,
+    search: Search,
+    watch: &W,
+) -> Result<Found, FindError>
     requires low { IfSome search.frames (λ n. n ≤ 4096) }
     ensures found { IfOk result (IsFoundFor search story.now) }
     ensures failed { IfErr result (FailsFor search story.now) }
 {
     if search.strict {
-        find_unmarked(alloc, story, search.frames)
+        find_unmarked(alloc, story, search.frames, watch)
     } else {
-        find_marked(alloc, story, search.frames)
+        find_marked(alloc, story, search.frames, watch)
     }
 }
 
@@ -161,13 +173,19 @@ fn add_places(
 }
 
 /// Why no certificate is found for a story, and what is broken in every one that marks nothing, if that is known.
-fn unfound(alloc: Global, story: &Story, search: Search, error: FindError) -> Problem
+fn unfound<W: Watch>(
+    alloc: Global,
+    story: &Story,
+    search: Search,
+    error: FindError,
+    watch: &W,
+) -> Problem
     requires { FailsFor search story.now error }
     ensures { IsUnfound search story.now result }
 {
     match error {
         FindError::OutOfMemory => Problem::Failed(Failure::Memory),
-        FindError::NotFound(_) | FindError::RoundLimit => match broken_in_all(alloc, story) {
+        FindError::NotFound(_) | FindError::RoundLimit => match broken_in_all(alloc, story, watch) {
             Ok(broken) => Problem::Unfound(error, broken),
             Err(_) => Problem::Failed(Failure::Memory),
         },

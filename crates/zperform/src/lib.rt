@@ -20,6 +20,7 @@ mod operands;
 mod outcome;
 mod performing;
 mod playing;
+mod progress;
 mod saves;
 mod seeking;
 mod showing;

@@ -72,6 +72,7 @@ pub fn perform<F: Files, R: Source, W: Sink, E: Sink>(
             let asked = command_of(&matches);
             let command = spoken(asked, speech);
             let outcome = carry_out(alloc, command, files, reader, writer, errors);
+            files.clear();
             report(alloc, &outcome, speech, files.blame(), errors)
         }
         Err(error) => explain(alloc, &error, writer, errors),
