@@ -10,7 +10,7 @@ from lenient import LenientMachine
 from machine import Machine, Store
 from known import Known
 from rules import instruction_fault, judge
-from stories import Refused, Story
+from stories import Refused, Story, signed
 from wrapping import in_turns
 
 REASONS = {}  # the first line that `explain` has of each rule and fault: tests/program/finding.py holds its texts
@@ -93,20 +93,53 @@ def lines_of(story, certificate, places):
     known, lines = Known(story, certificate), []
     known.has_property_tables()
     for place in places:
-        lines.append(line_of(place, certificate.instructions[place][0], name_at(story, place)))
-        if place in certificate.marks:
+        is_marked = place in certificate.marks
+        lines.append(line_of(place, certificate.instructions[place][0], name_at(story, place, is_marked)))
+        if is_marked:
             lines.append(b"marked: %s\n" % REASONS.get(instruction_fault(known, place), b"its rule holds"))
     return b"".join(lines)
 
 
-def name_at(story, place):
-    """The name of an instruction that is listed; where none stands it is marked. In dynamic memory none does, since it may change."""
+def name_at(story, place, is_marked):
+    """The name of an instruction that is listed, and behind it its operands where it is marked; where none stands it is marked. In dynamic memory
+    none does, since it may change."""
     if place < story.static:
         return "no instruction"
     try:
-        return decode(story, story.memory, place).name
+        it = decode(story, story.memory, place)
     except NoInstruction:
         return "no instruction"
+    return it.name + (operands_of(it) if is_marked else "")
+
+
+OF_OBJECTS = set("jin insert_obj test_attr set_attr clear_attr get_prop get_prop_addr get_next_prop put_prop get_sibling get_child get_parent remove_obj print_obj".split())
+BY_NUMBER = set("inc dec inc_chk dec_chk load store pull".split())
+SECOND = {
+    **dict.fromkeys(("jin", "insert_obj"), "object"),
+    **dict.fromkeys(("test_attr", "set_attr", "clear_attr"), "attribute"),
+    **dict.fromkeys(("get_prop", "get_prop_addr", "get_next_prop", "put_prop"), "property"),
+}
+
+
+def operands_of(it):
+    """The operands of an instruction in words, with a space in front."""
+    told = [operand_of(it, at, is_variable, value) for at, (is_variable, value) in enumerate(it.operands)]
+    return " " + ", ".join(told) if told else ""
+
+
+def operand_of(it, at, is_variable, value):
+    if is_variable:
+        return f"[{variable_of(value)}]" if at == 0 and it.name in BY_NUMBER else variable_of(value)
+    if at == 0 and it.name in BY_NUMBER:
+        return variable_of(value) if value < 256 else f"variable {value}"
+    if at == 0 and it.name == "call":
+        return f"routine {2 * value:05x}"
+    kind = "object" if at == 0 and it.name in OF_OBJECTS else SECOND.get(it.name) if at == 1 else None
+    return f"{kind} {value}" if kind else str(signed(value))
+
+
+def variable_of(number):
+    return f"{'global' if number > 15 else 'local'} {number}" if number else "stack"
 
 
 def options_of(words):

@@ -29,7 +29,7 @@ def listed(made=MADE, places=PLACES, stacks=None, divisor=(0, 5)):
 
 BOTH = marked(listed(), [DIVISION, CALL])
 LISTING = (
-    b"00324 0 print\n00329 0 div\nmarked: I8: a divisor may be 0.\n0032d 0 print_num\n00330 0 call\n"
+    b"00324 0 print\n00329 0 div 100, global 16\nmarked: I8: a divisor may be 0.\n0032d 0 print_num\n00330 0 call global 17\n"
     b"marked: I12: a call may be of what is no routine, or hand over what the routine doesn't take.\n00334 0 print_num\n00337 0 quit\n00339 1 ret\n"
 )
 AT_CALL = BOTH.index(bytes.fromhex("00000330 0000 80")) + 6

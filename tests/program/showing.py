@@ -103,7 +103,7 @@ RUNS = [
     ("the instruction before it", [*SHOW, "00324"], FALSE_FACT, shown(
         claims(STATING), "00324 0 print\nheight 0\nbroken: I4: what follows the instruction isn't known well enough.\n"
     )),
-    ("no object", [*SHOW, "00324"], ORPHANED, shown(ITS_CLAIMS, "00324 0 get_parent\nheight 0\nbroken: I5: an operand that has to be an object may be none, most often 0.\n")),
+    ("no object", [*SHOW, "00324"], ORPHANED, shown(ITS_CLAIMS, "00324 0 get_parent object 0\nheight 0\nbroken: I5: an operand that has to be an object may be none, most often 0.\n")),
     ("the rule of another instruction isn't told", [*SHOW, "00327"], ORPHANED, shown(ITS_CLAIMS, "00327 0 quit\nheight 0\nits rule holds\n")),
     ("a listed place with no instruction", [*SHOW, "00324"], files(BARE, certificate(BARE, [0x324, 0x327])), shown(
         ITS_CLAIMS, "00324 0 no instruction\nheight 0\nbroken: I1: no instruction stands there.\n"
