@@ -31,6 +31,7 @@ from program import Answer, Count, Program
 from properties import see_properties
 from samples import CODE, HELLO, NEW_LINE, NOP, QUIT, certificate, changed, interval, story, with_objects
 from showing import see_showing
+from sourced import see_manual, see_sources
 from stated import see_stated
 from texts import see_texts
 from unpacking import see_unpacking
@@ -44,6 +45,11 @@ ITS_CERTIFICATE = certificate(SAMPLE, LISTED)
 
 def help_text(name):
     with open(os.path.join(HERE, "help", name), "rb") as file:
+        return file.read()
+
+
+def manual_page():
+    with open(os.path.join(HERE, "..", "..", "docs", "zpc.1"), "rb") as file:
         return file.read()
 
 
@@ -475,6 +481,8 @@ def main():
     see_frames(program, count)
     see_marks(program, count)
     see_showing(program, count, help_text("no_address.txt"))
+    see_sources(program, count)
+    see_manual(program, count, manual_page())
     see_excused(program, count)
     see_fronts(program, count)
     see_facts(program, count)

@@ -12,6 +12,7 @@ use Rattle.zfind.specs.declared.error.FindError.TheVariants.{OutOfMemory as NoMe
 use Rattle.zexplain.specs.Short.{all_codes}
 use Rattle.zexplain.specs.declared.certificates.TheConstants.{FINDING, FITTING, READING}
 use Rattle.zexplain.specs.declared.faults.TheConstants.{FAULTS}
+use Rattle.zexplain.specs.declared.debugging.TheConstants.{DEBUGGING}
 use Rattle.zexplain.specs.declared.playing.TheConstants.{KEEPING, PLAYING, SAVING, UNPACKING}
 use Rattle.zexplain.specs.declared.rules.TheConstants.{RULES}
 use Rattle.zexplain.specs.declared.stories.TheConstants.{DECODING, LISTING, LOADING, TEXTS}
@@ -107,8 +108,11 @@ objects_of_certificates = flat_map (λ e. explained_line e.0.now e.1.now) READIN
 unfoldable pub objects_of_play : List ℕ
 objects_of_play = flat_map (λ e. explained_line e.0.now e.1.now) FAULTS ++ flat_map (λ e. explained_line e.0.now e.1.now) SAVING ++ flat_map (λ e. explained_line e.0.now e.1.now) UNPACKING ++ flat_map (λ e. explained_line e.0.now e.1.now) PLAYING ++ flat_map (λ e. explained_line e.0.now e.1.now) KEEPING
 
+unfoldable pub objects_of_debugging : List ℕ
+objects_of_debugging = flat_map (λ e. explained_line e.0.now e.1.now) DEBUGGING
+
 abbrev pub all_objects : List ℕ
-all_objects = objects_of_stories ++ objects_of_certificates ++ objects_of_play
+all_objects = objects_of_stories ++ objects_of_certificates ++ objects_of_play ++ objects_of_debugging
 
 -- what is told of codes: of one, if it is one, or of all, a line or an object each
 abbrev pub codes_text : Option (List ℕ) → Bool → Option (List ℕ)

@@ -3,14 +3,14 @@
 ghost use Rattle.std.specs.Prelude.{◌≡◌, ◌≢◌, ◌++◌, IfOk, None, Some, flat_map, option_map};
 ghost use Rattle.zjson.specs.Answers.{explained_line};
 ghost use Rattle.zperform.specs.Devices.{FlushesUnless};
-ghost use Rattle.zperform.specs.Finding.{ExplainComesTo, all_objects, codes_text, objects_of_certificates, objects_of_play, objects_of_stories};
+ghost use Rattle.zperform.specs.Finding.{ExplainComesTo, all_objects, codes_text, objects_of_certificates, objects_of_debugging, objects_of_play, objects_of_stories};
 
 use crate::outcome::{Failure, Outcome, Problem};
 use crate::performing::write_done;
 use std::alloc::{AllocError, Global};
 use zexplain::{
-    DECODING, FAULTS, FINDING, FITTING, KEEPING, LISTING, LOADING, PLAYING, READING, RULES, SAVING,
-    TEXTS, UNPACKING, all_codes, explanation,
+    DEBUGGING, DECODING, FAULTS, FINDING, FITTING, KEEPING, LISTING, LOADING, PLAYING, READING,
+    RULES, SAVING, TEXTS, UNPACKING, all_codes, explanation,
 };
 use zfault::Sink;
 use zjson::explained_line;
@@ -63,6 +63,7 @@ fn all_objects(alloc: Global) -> Result<Vec<u8>, AllocError>
     add_stories(alloc, &mut text)?;
     add_certificates(alloc, &mut text)?;
     add_play(alloc, &mut text)?;
+    add_debugging(alloc, &mut text)?;
     Ok(text)
 }
 
@@ -95,6 +96,12 @@ fn add_play(alloc: Global, text: &mut Vec<u8>) -> Result<(), AllocError>
     add_objects(alloc, &PLAYING, text)?;
     add_objects(alloc, &KEEPING, text)?;
     Ok(())
+}
+
+fn add_debugging(alloc: Global, text: &mut Vec<u8>) -> Result<(), AllocError>
+    ensures { IfOk result (λ _. text.new.items ≡ text.old.items ++ objects_of_debugging) }
+{
+    add_objects(alloc, &DEBUGGING, text)
 }
 
 /// Adds an object for each of these codes with its text.
