@@ -88,7 +88,9 @@ impl<'a, R: Runtime> Progress<'a, R> {
     /// Writes how far it is.
     fn write(&self) -> io::Result<()> {
         let files = self.files.get();
-        let visits = self.visits.get();
-        eprint!(self.rt; "\r{files} files, {visits} instructions visited")
+        match self.visits.get() {
+            0 => eprint!(self.rt; "\rfiles read: {files}"),
+            visits => eprint!(self.rt; "\rfiles read: {files}, instructions visited: {visits}"),
+        }
     }
 }
