@@ -3,7 +3,7 @@
 ghost use Rattle.std.specs.Prelude.{◌≡◌, ◌++◌, IfOk, decimal};
 ghost use Rattle.std.specs.Fmt.{signed_decimal};
 ghost use Rattle.zdomain.specs.Interval.{signed};
-ghost use Rattle.zperform.specs.Operands.{constant_text, meaning_at, number_text, operand_text, operands_text, separator, variable_text};
+ghost use Rattle.zperform.specs.Operands.{constant_text, meaning_at, number_text, operand_part, operand_text, operands_text, separator, variable_text};
 ghost use Rattle.zcert.specs.Listed.{seen};
 ghost use Rattle.zperform.specs.Showing.{told_line, whole_line};
 
@@ -70,15 +70,30 @@ fn add_operands(instruction: &Instr, text: &mut Vec<u8>) -> Result<(), AllocErro
     ensures { IfOk result (λ _. text.new.items ≡ text.old.items ++ operands_text instruction.now.opcode instruction.now.operands) }
 {
     let operands = instruction.operands();
+    add_parts(instruction.opcode(), operands.as_slice(), text)
+}
+
+/// Adds the operands of an opcode, each behind what stands before it.
+fn add_parts(opcode: Opcode, operands: &[Operand], text: &mut Vec<u8>) -> Result<(), AllocError>
+    ensures { IfOk result (λ _. text.new.items ≡ text.old.items ++ operands_text opcode operands.now) }
+{
     for place in 0..operands.len() {
-        add_separator(place, text)?;
-        add_operand(
-            meaning_at(instruction.opcode(), place),
-            operands[place],
-            text,
-        )?;
+        add_part(opcode, place, operands[place], text)?;
     }
     Ok(())
+}
+
+/// Adds the operand of an opcode at a place, behind what stands before it.
+fn add_part(
+    opcode: Opcode,
+    place: usize,
+    operand: Operand,
+    text: &mut Vec<u8>,
+) -> Result<(), AllocError>
+    ensures { IfOk result (λ _. text.new.items ≡ text.old.items ++ operand_part opcode place operand) }
+{
+    add_separator(place, text)?;
+    add_operand(meaning_at(opcode, place), operand, text)
 }
 
 /// Adds what stands before the operand at a place.
