@@ -147,7 +147,7 @@ found_line n = codes "found" ++ marks_text n ++ 10 ∷ []
 -- what is said of a code that there isn't, as clap says it of words: three lines with empty ones between
 abbrev pub no_code : List ℕ
 no_code =
-    codes "error: there is no such code; there are L1 to L12, K1 to K9, S1 to S8, I1 to I18, U1 to U4, G1 to G3, F1 to F16, J1 to J5, E1 to E3, Q1 to Q11, C1 to C9, P1 to P3, N1 to N2 and B1 to B10"
+    codes "error: no such code; there are L1 to L12, K1 to K9, S1 to S8, I1 to I18, U1 to U4, G1 to G3, F1 to F16, J1 to J5, E1 to E3, Q1 to Q11, C1 to C9, P1 to P3, N1 to N2 and B1 to B10"
     ++ 10 ∷ 10 ∷ codes "Usage: zpc explain [OPTIONS] [CODE]" ++ 10 ∷ 10 ∷ codes "For more information, try '--help'."
 
 -- what is said of a word that is no address, in the same form

@@ -22,7 +22,7 @@ const ROOM: usize = 256;
 
 /// What is said of a code that there isn't.
 const NO_CODE: &[u8] =
-    b"error: there is no such code; there are L1 to L12, K1 to K9, S1 to S8, I1 to I18, U1 to U4, G1 to G3, F1 to F16, J1 to J5, E1 to E3, Q1 to Q11, C1 to C9, P1 to P3, N1 to N2 and B1 to B10
+    b"error: no such code; there are L1 to L12, K1 to K9, S1 to S8, I1 to I18, U1 to U4, G1 to G3, F1 to F16, J1 to J5, E1 to E3, Q1 to Q11, C1 to C9, P1 to P3, N1 to N2 and B1 to B10
 
 Usage: zpc explain [OPTIONS] [CODE]
 
