@@ -7,8 +7,8 @@ use std::alloc::Global;
 use std::env;
 use std::io::{self, IsTerminal, Write};
 use std::rt::Runtime;
-use zfault::{FromRead, Sink, Source, ToWrite};
 use zdebug::DebugInfo;
+use zfault::{FromRead, Sink, Source, ToWrite};
 use zfront::{Aside, Copied, Cursor, Followed, Lined, Recorded, Screen, Shown, Sourced, Typed};
 use zperform::{
     Action, Blame, Cause, Disk, Failure, Files, Outcome, Problem, Speech, fail, perform, read_file,

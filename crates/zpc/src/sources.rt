@@ -52,7 +52,9 @@ fn info_of<F: Files>(alloc: Global, name: &str, files: &mut F) -> Result<DebugIn
     match read_file(alloc, files, name, FILE_LIMIT + 1) {
         Ok(bytes) => match DebugInfo::read(alloc, &bytes) {
             Ok(info) => Ok(info),
-            Err(DebugError::OutOfMemory) => Err(Undebugged::Unread(Problem::Failed(Failure::Memory))),
+            Err(DebugError::OutOfMemory) => Err(Undebugged::Unread(Problem::Failed(
+                Failure::Memory,
+            ))),
             Err(error) => Err(Undebugged::Refused(error)),
         },
         Err(problem) => Err(Undebugged::Unread(problem)),
