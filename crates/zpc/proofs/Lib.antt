@@ -1,1 +1,3 @@
 pub mod Stack
+mod Kept
+mod WorkedWords
