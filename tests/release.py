@@ -232,7 +232,8 @@ def see_page(room, count):
     count.see(of_help.returncode == 0 and not of_help.stdout, f"the page: {of_help.stdout}")
     of_program = subprocess.run([*check, program], capture_output=True, text=True)
     lines = [it for it in of_program.stdout.splitlines() if it.startswith(("+", "-")) and not it.startswith(("+++", "---"))]
-    count.see(len(lines) == 2 and all(".TH ZPC" in it for it in lines), f"of a program with the same help but its version: {of_program.stdout}")
+    # Of the page, and of the same page in the program's source.
+    count.see(len(lines) == 4 and all(".TH ZPC" in it for it in lines), f"of a program with the same help but its version: {of_program.stdout}")
     if shutil.which("groff"):
         drawn = subprocess.run(["groff", "-man", "-ww", "-z", os.path.join(TOP, "docs", "zpc.1")], capture_output=True, text=True)
         count.see(drawn.returncode == 0 and not drawn.stderr, f"the page: {drawn.stderr}")
