@@ -123,11 +123,19 @@ def see_refused(program, count):
     count.is_answer("sourced: a bad file, and a bad story", program.run(["check", "--debug", "story", "debug"], PLAIN), Answer(1, b"", b"refused: B2\n"))
 
 
+def see_unwritten(program, count):
+    """A device that takes nothing."""
+    for words in (["list", *BY_DEBUG, "story"], ["show", *BY_DEBUG, "story", "certificate"]):
+        with open("/dev/full", "wb") as full:
+            count.is_answer(f"sourced: {words[0]} to a full device", program.run(words, PLAIN, full), Answer(4, b"", b"failed: write\n"))
+
+
 def see_sources(program, count):
     see_written(program, count)
     see_objects(program, count)
     see_tide(program, count)
     see_refused(program, count)
+    see_unwritten(program, count)
 
 
 def see_manual(program, count, manual):

@@ -53,6 +53,9 @@ each=
 # refused for an answer, or to keep one, play ends
 warned=
 
+# whether places of the source are told: where memory for one is refused, its line stays as it is without it
+sourced=
+
 # answer NAME SETTINGS WORD..: the status, output and errors of a run, in files of that name. The settings are of the
 # program's environment alone.
 answer() {
@@ -75,6 +78,22 @@ is_warned() {
     ! grep -qvE "$warned" "$work/refused.err" && is_beginning "$work/refused.out" "$work/ample.out" && [ "$1" = "$ends" ]
 }
 
+# without_places FILE: its lines without the places of the source
+without_places() {
+    sed -E 's/ \([^ ]+:[0-9]+, [^ ]+\)$//' "$1"
+}
+
+# is_told STATUS: whether lines were written to their end, or as far as there was memory, each with its place or without
+is_told() {
+    without_places "$work/ample.out" >"$work/ample.plain"
+    without_places "$work/refused.out" >"$work/refused.plain"
+    case $1 in
+        0) [ ! -s "$work/refused.err" ] && cmp -s "$work/ample.plain" "$work/refused.plain" ;;
+        4) [ "$(cat "$work/refused.err")" = "failed: memory" ] && is_beginning "$work/refused.plain" "$work/ample.plain" ;;
+        *) false ;;
+    esac
+}
+
 # one command, over every N
 refuse_each() {
     local ample=() refusing=()
@@ -92,6 +111,8 @@ refuse_each() {
         elif [ -n "$each" ] && [ "$(cat "$work/refused.status")" = 4 ] && [ ! -s "$work/refused.err" ] && ! grep -qvE "$each" "$work/refused.out"; then
             passed=$((passed + 1))
         elif [ -n "$warned" ] && is_warned "$(cat "$work/refused.status")"; then
+            passed=$((passed + 1))
+        elif [ -n "$sourced" ] && is_told "$(cat "$work/refused.status")"; then
             passed=$((passed + 1))
         elif [ -n "$unrestored" ] && [ "$(cat "$work/refused.status")" = 0 ] && [ "$(cat "$work/refused.out")" = "$unrestored" ] && [ ! -s "$work/refused.err" ]; then
             passed=$((passed + 1))
@@ -172,6 +193,11 @@ refuse_each play --lenient "$work/faults"
 refuse_each play --lenient --save "$work/new" "$work/faults"
 warned=
 refuse_each play --lenient hello.z3 hello.cert
+sourced=1
+refuse_each list --debug "$here/../debug/tide.dbg" "$here/../debug/tide.z3"
+sourced=
+refuse_each list --debug "$work/absent" hello.z3
+refuse_each list --debug hello.z3 hello.z3
 each='^(.*hello\.z3: (accepted|found|failed: memory)|[12] files?: [01] (accepted|found), [12] failed)$'
 cp hello.z3 "$work/hello.z3"
 refuse_each check hello.z3
