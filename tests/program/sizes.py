@@ -22,6 +22,7 @@ from plays import PRINT_TOP, PUSH, ended, placed
 from program import Answer, Count, Program
 from samples import CODE, DICTIONARY, NEW_LINE, NOP, QUIT, STATIC, certificate, changed, interval, letter, printed, story, text, word
 from saves import FIRST_FRAME, RESTORE, SAVE, saved
+from sourced import debug_information
 from stated import stated
 from unpacking import ways
 
@@ -440,6 +441,16 @@ def packed_saves(program, count):
                     count.see(file.read() == save, f"{what}, {how}: it isn't the save")
 
 
+def sourced_at_length(program, count):
+    """Debug information as long as is read: with 100,000 places of a source, and with names of 8,000,000 bytes."""
+    made = story(NOP * 9 + QUIT)
+    for points, name in ((100000, "Ring"), (10, "n" * 8000000)):
+        debug = debug_information([(CODE + it, 0, it + 1) for it in range(points)], name).ljust(128 * 131072)
+        lines = "".join(f"{CODE + it:05x} 0 {'nop' if it < 9 else 'quit'} (bell.inf:{it + 1}, {name})\n" for it in range(10))
+        answer = program.run(["list", "--debug", "debug", "story"], {"story": made, "debug": debug})
+        count.see(answer == Answer(0, lines.encode(), b""), f"{points} places of the source, with names of {len(name)} bytes: status {answer.status}, {len(answer.output)} bytes, {answer.errors}")
+
+
 def tallest(program, count):
     """The tallest stack of the checked machine, and one word more."""
     push, back = PUSH + b"\x01", b"\x8c\xff\xfc"
@@ -547,6 +558,8 @@ GROWTH = [
     ("zexplain all_codes", "a line of each of the codes, which are always the same", None),
     ("zcommand read_words", "words, and letters of a word", long_names),
     ("zperform", "names of files", long_names),
+    ("zdebug", "records, and letters of a name", sourced_at_length),
+    ("zfront line_told", "letters of a name", sourced_at_length),
     ("zfront new", "a piece of 1,024 bytes, and as many as the width has columns", None),
     ("zpc", "words, and names of files", long_names),
 ]

@@ -21,15 +21,22 @@ LISTED = [CODE, DIVISION, 0x32D, 0x330]
 # Names have a quotation mark, a backslash and a letter that isn't ASCII, which are told as they may be.
 POINTS = [(CODE, 0, 12), (DIVISION, 0, 13), (0x330, 1, 7)]
 POINT = "<sequence-point><address>{}</address><source-code-location><file-index>{}</file-index><line>{}</line></source-code-location></sequence-point>"
-WRITTEN = (
-    '<?xml version="1.0"?><inform-story-file version="1.0" content-creator="Inform">'
-    '<source index="0"><given-path>bell.inf</given-path></source><source index="1"><given-path>a"b\\c\u00e4.h</given-path></source>'
-    f"<routine><identifier>Ring</identifier><address>{CODE}</address><byte-count>40</byte-count>{''.join(POINT.format(*it) for it in POINTS)}</routine>"
-    "<global-variable><identifier>noun</identifier><address>64</address></global-variable>"
-    "<story-file-section><type>global variables</type><address>64</address><end-address>544</end-address></story-file-section>"
-    "</inform-story-file>"
-).encode()
 
+
+def debug_information(points, routine):
+    """What Inform writes of a routine of a name at CODE, with these points: each an address, the number of a source, and a line."""
+    told = "".join(POINT.format(*it) for it in points)
+    return (
+        '<?xml version="1.0"?><inform-story-file version="1.0" content-creator="Inform">'
+        '<source index="0"><given-path>bell.inf</given-path></source><source index="1"><given-path>a"b\\c\u00e4.h</given-path></source>'
+        f"<routine><identifier>{routine}</identifier><address>{CODE}</address><byte-count>200000</byte-count>{told}</routine>"
+        "<global-variable><identifier>noun</identifier><address>64</address></global-variable>"
+        "<story-file-section><type>global variables</type><address>64</address><end-address>544</end-address></story-file-section>"
+        "</inform-story-file>"
+    ).encode()
+
+
+WRITTEN = debug_information(POINTS, "Ring")
 PLAIN = {"story": MADE, "certificate": certificate(MADE, LISTED, stacks={0x32D: interval(-32768, 32767)}), "debug": WRITTEN}
 DIVIDES = {**PLAIN, "certificate": certificate(MADE, LISTED, stacks={0x32D: interval(-32768, 32767)}, own={16: (0, 5)})}
 BY_DEBUG = ["--debug", "debug"]
