@@ -1,4 +1,4 @@
-//! Where an instruction leads, and where a routine begins.
+//! What stands at a place, where an instruction leads, and where a routine begins.
 
 ghost use Rattle.std.specs.Prelude.{◌≡◌, ◌<◌, ◌≤◌, ◌+◌, ◌^◌, IfOk, IfSome, length, if◌then◌else◌, None};
 ghost use Rattle.zcode.specs.Instruction.{destination};
@@ -9,7 +9,7 @@ use zcode::{Branch, DecodeError, Destination, Instr, Opcode, Operand, decode_by}
 use ztext::TextEnds;
 
 /// What stands at a place, or why nothing does. `ends` are those of the texts of the memory.
-pub(crate) fn spelled(ends: &mut TextEnds<'_>, place: i32) -> Result<Instr, DecodeError>
+pub fn spelled(ends: &mut TextEnds<'_>, place: i32) -> Result<Instr, DecodeError>
     requires { length ends.old ≤ 131072 }
     ensures memory { ends.new ≡ ends.old }
     ensures value { result ≡ spelled ends.old place }
@@ -57,7 +57,7 @@ fn goes_on(instruction: &Instr) -> bool
 }
 
 /// The place behind an instruction, if play may go on there.
-pub(crate) fn next_place(place: i32, instruction: &Instr) -> Option<i32>
+pub fn next_place(place: i32, instruction: &Instr) -> Option<i32>
     requires { IsInside place instruction.now }
     ensures { result ≡ next_place place instruction.now }
 {
@@ -81,7 +81,7 @@ fn aside(instruction: &Instr) -> Option<i32>
 }
 
 /// The place to which it may so lead.
-pub(crate) fn aside_place(place: i32, instruction: &Instr) -> Option<i32>
+pub fn aside_place(place: i32, instruction: &Instr) -> Option<i32>
     requires { IsInside place instruction.now }
     ensures { result ≡ aside_place place instruction.now }
 {
@@ -119,7 +119,7 @@ fn routine_named(operands: &[Operand]) -> Option<u32>
 }
 
 /// The address of the routine that an instruction calls by a constant.
-pub(crate) fn callee(instruction: &Instr) -> Option<u32>
+pub fn callee(instruction: &Instr) -> Option<u32>
     ensures value { result ≡ callee instruction.now.opcode instruction.now.operands }
     ensures low { IfSome result (λ a. a < 131072) }
 {
@@ -131,7 +131,7 @@ pub(crate) fn callee(instruction: &Instr) -> Option<u32>
 }
 
 /// Where the code of the routine at an address begins, or what is wrong with its head.
-pub(crate) fn begins(memory: &[u8], address: u32) -> Result<u32, DecodeError>
+pub fn begins(memory: &[u8], address: u32) -> Result<u32, DecodeError>
     requires { address < 2 ^ 24 }
     ensures value { result ≡ begins memory.now address }
     ensures inside { IfOk result (λ q. q ≤ length memory.now) }

@@ -15,6 +15,7 @@ mod record;
 mod standing;
 mod walk;
 
+pub use leading::{aside_place, begins, callee, next_place, spelled};
 pub use list_error::ListError;
 pub use lister::list_story;
 pub use listing::Listing;
