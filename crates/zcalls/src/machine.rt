@@ -46,7 +46,7 @@ pub trait Machine {
 fn options(budget: u32) -> Options {
     Options {
         budget,
-        status: false,
+        status: StatusLines::Hidden,
     }
 }
 

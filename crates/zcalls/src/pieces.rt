@@ -7,7 +7,7 @@ use std::alloc::AllocError;
 use std::{io, str};
 use zfault::{Items, Pause};
 use zplayer::{End, PlayError};
-use zscreen::render;
+use zscreen::{StatusLines, render};
 use zstate::Stop;
 
 /// More pieces than any of these plays needs, with one that is refused.
@@ -115,11 +115,11 @@ fn play<M: Machine>(
 
 /// Renders what was given out.
 fn show(rt: &HostRuntime, items: &Items) -> io::Result<()> {
-    let bytes = match render(rt.alloc(), items, true) {
+    let bytes = match render(rt.alloc(), items, StatusLines::Bracketed) {
         Ok(bytes) => bytes,
         Err(AllocError) => {
             println!(rt; "refused: render")?;
-            render(rt.alloc(), items, true)?
+            render(rt.alloc(), items, StatusLines::Bracketed)?
         }
     };
     let text = str::from_utf8(&bytes).unwrap_or("no text");

@@ -13,6 +13,8 @@ use Rattle.zbatch.specs.Naming.{is_story_name}
 use Rattle.zcommand.specs.declared.words.Command.{Command}
 use Rattle.zcommand.specs.declared.words.Command.TheVariants as commands
 use Rattle.zcommand.specs.declared.words.Front.{Front as NamedFront}
+use Rattle.zscreen.specs.declared.status_lines.StatusLines.{StatusLines}
+use Rattle.zscreen.specs.declared.status_lines.StatusLines.TheVariants.{Hidden, Bracketed, Framed}
 
 -- a word without a name before it, which has to be there or may be
 abbrev pub word_rule : Text → Bool → Rule
@@ -55,6 +57,10 @@ places_rule = record (new_rule (codes "places")) { long = Some (codes "places");
 -- `--status`, a flag
 abbrev pub status_rule : Rule
 status_rule = record (new_rule (codes "status")) { long = Some (codes "status"); action = Some SetTrue }
+
+-- `--framed-status`, a flag
+abbrev pub framed_status_rule : Rule
+framed_status_rule = record (new_rule (codes "framed-status")) { long = Some (codes "framed-status"); action = Some SetTrue }
 
 -- `--tell`, a flag
 abbrev pub tell_rule : Rule
@@ -168,9 +174,13 @@ check_app = with_rule (with_rule (many_app (codes "check")) json_rule) debug_rul
 abbrev pub show_app : App
 show_app = with_rule (with_rule (files_app (codes "show") true) address_rule) debug_rule
 
--- `play STORY [CERT] --seed N --budget N --status`
+-- `play STORY [CERT] --seed N --budget N`
+abbrev pub counted_app : App
+counted_app = with_rule (with_rule (files_app (codes "play") false) seed_rule) budget_rule
+
+-- the same with `--status --framed-status`
 abbrev pub saveless_app : App
-saveless_app = with_rule (with_rule (with_rule (files_app (codes "play") false) seed_rule) budget_rule) status_rule
+saveless_app = with_rule (with_rule counted_app status_rule) framed_status_rule
 
 -- the same with `--save FILE --tell --force`
 abbrev pub strict_app : App
@@ -282,9 +292,9 @@ width_of rows = option_map_or (fitting_in is_width) (one_of (codes "width") rows
 abbrev pub is_asked : Text → List Row → Bool
 is_asked name rows = option_map_or (λ text. bytes_eq text (codes "true")) (one_of name rows) false
 
--- so whether status lines are asked for
-abbrev pub is_status_asked : List Row → Bool
-is_status_asked rows = is_asked (codes "status") rows
+-- so how status lines are to be shown: where both ways are asked for, in frames
+abbrev pub status_lines_of : List Row → StatusLines
+status_lines_of rows = if is_asked (codes "framed-status") rows then Framed else if is_asked (codes "status") rows then Bracketed else Hidden
 
 -- and whether each save that is refused is to be told
 abbrev pub is_tell_asked : List Row → Bool
@@ -439,7 +449,7 @@ pub data Request : Type 0 where
   Check : (story certificate : Text) (json : Bool) → Request
   CheckEach : (stories : List Text) (json : Bool) → Request
   Show : (story certificate : Text) (address : Option Text) → Request
-  Play : (story : Text) (certificate : Option Text) (seed budget : ℕ) (status : Bool) (save : Option Text) (tell force lenient : Bool) → Request
+  Play : (story : Text) (certificate : Option Text) (seed budget : ℕ) (status : StatusLines) (save : Option Text) (tell force lenient : Bool) → Request
   Info : (story : Text) (json : Bool) → Request
   Explain : (code : Option Text) (json : Bool) → Request
   Unpack : (story save out : Text) (force : Bool) → Request
@@ -466,7 +476,7 @@ Asks matches (Show story certificate address) =
     (matches.0 ≡ codes "show") × (story ≡ story_of matches.1) × (certificate ≡ unwrap_or (certificate_of matches.1) []) × (address ≡ address_of matches.1)
 Asks matches (Play story certificate seed budget status save tell force lenient) =
     (matches.0 ≡ codes "play") × (story ≡ story_of matches.1) × (certificate ≡ certificate_of matches.1) × (seed ≡ seed_of matches.1) × (budget ≡ budget_of matches.1)
-    × (status ≡ is_status_asked matches.1) × (save ≡ save_of matches.1) × (tell ≡ is_tell_asked matches.1) × (force ≡ is_force_asked matches.1)
+    × (status ≡ status_lines_of matches.1) × (save ≡ save_of matches.1) × (tell ≡ is_tell_asked matches.1) × (force ≡ is_force_asked matches.1)
     × (lenient ≡ is_lenient_asked matches.1)
 Asks matches (Info story json) = (matches.0 ≡ codes "info") × (story ≡ story_of matches.1) × (json ≡ is_json_asked matches.1)
 Asks matches (Explain code json) = (matches.0 ≡ codes "explain") × (code ≡ code_of matches.1) × (json ≡ is_json_asked matches.1)

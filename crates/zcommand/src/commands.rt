@@ -3,7 +3,7 @@
 ghost use Rattle.std.specs.Prelude.{◌≡◌, IfOk, false};
 ghost use Rattle.clap.specs.Words.{app_of, rule_of};
 ghost use Rattle.clap.specs.declared.builder.command.Command.TheViews.{out-Command as fields_of};
-ghost use Rattle.zcommand.specs.CommandLine.{frames_rule, framing_app, frontless_app, bare_app, budget_rule, certificate_rule, address_rule, certifying_app, check_app, code_rule, debug_rule, explain_app, file_rule, files_app, files_rule, find_app, force_rule, info_app, json_rule, lenient_rule, list_app, many_app, marking_app, naming_app, no_save_rule, out_rule, output_rule, packed_rule, places_rule, plain_rule, play_app, playing_app, record_rule, replay_rule, save_rule, saveless_app, seed_rule, show_app, showing_app, status_rule, story_rule, strict_app, strict_rule, tell_rule, transcript_rule, unpack_app, width_rule, word_rule, zpc_app};
+ghost use Rattle.zcommand.specs.CommandLine.{counted_app, frames_rule, framed_status_rule, framing_app, frontless_app, bare_app, budget_rule, certificate_rule, address_rule, certifying_app, check_app, code_rule, debug_rule, explain_app, file_rule, files_app, files_rule, find_app, force_rule, info_app, json_rule, lenient_rule, list_app, many_app, marking_app, naming_app, no_save_rule, out_rule, output_rule, packed_rule, places_rule, plain_rule, play_app, playing_app, record_rule, replay_rule, save_rule, saveless_app, seed_rule, show_app, showing_app, status_rule, story_rule, strict_app, strict_rule, tell_rule, transcript_rule, unpack_app, width_rule, word_rule, zpc_app};
 
 use crate::words::{MOST_FRAMES, MOST_WIDTH};
 use clap::builder::ValueParser;
@@ -232,15 +232,23 @@ fn saveless<'a>(alloc: Global) -> Result<clap::Command<'a>, AllocError>
     ensures app { IfOk result (λ play. app_of play ≡ saveless_app) }
     ensures local { IfOk result (λ play. (fields_of play).has_globals ≡ false) }
 {
+    let play = counted(alloc)?.arg(status(alloc))?;
+    play.arg(framed_status(alloc))
+}
+
+/// `play` with its story, its certificate and its numbers alone.
+fn counted<'a>(alloc: Global) -> Result<clap::Command<'a>, AllocError>
+    ensures app { IfOk result (λ play. app_of play ≡ counted_app) }
+    ensures local { IfOk result (λ play. (fields_of play).has_globals ≡ false) }
+{
     let play = on_files(
         alloc,
         "play",
         "Plays a story, with a certificate or without",
         false,
     )?;
-    let play = play.after_help(PLAY_ENDING);
-    let play = play.arg(seed(alloc))?.arg(budget(alloc))?;
-    play.arg(status(alloc))
+    let play = play.after_help(PLAY_ENDING).arg(seed(alloc))?;
+    play.arg(budget(alloc))
 }
 
 fn info<'a>(alloc: Global) -> Result<clap::Command<'a>, AllocError>
@@ -465,6 +473,16 @@ fn status<'a>(alloc: Global) -> Arg<'a>
     Arg::new(alloc, "status")
         .long("status")
         .help("Writes status lines too")
+        .action(ArgAction::SetTrue)
+}
+
+fn framed_status<'a>(alloc: Global) -> Arg<'a>
+    ensures rule { rule_of result ≡ framed_status_rule }
+    ensures local { result.global ≡ false }
+{
+    Arg::new(alloc, "framed-status")
+        .long("framed-status")
+        .help("Writes status lines too, each between bytes that no text has: 2, 31, 3")
         .action(ArgAction::SetTrue)
 }
 

@@ -3,12 +3,13 @@
 ghost use Rattle.std.specs.Prelude.{◌≡◌, ◌<◌, ◌≤◌, IfOk, IfSome, IsSomeAnd, codes, false, map, option_and_then, option_map};
 ghost use Rattle.clap.specs.Walk.{texts};
 ghost use Rattle.clap.specs.Words.{FailsBy, fault_of, found_of, rows_of, subcommand_name_of, subcommand_of, subcommand_rows_of};
-ghost use Rattle.zcommand.specs.CommandLine.{IsCommand, IsLow, IsReadFrom, debug_asked, files_of, fitting, frames_of, front_asked, front_named, front_of, is_json_asked, is_width, low_limit, no_front, pair_of, target_of, width_of, zpc_app};
+ghost use Rattle.zcommand.specs.CommandLine.{IsCommand, IsLow, IsReadFrom, debug_asked, files_of, fitting, frames_of, front_asked, front_named, front_of, is_json_asked, is_width, low_limit, no_front, pair_of, status_lines_of, target_of, width_of, zpc_app};
 
 use crate::commands::program;
 use clap::{ArgMatches, Error};
 use std::alloc::Global;
 use zbatch::is_story_name;
+use zscreen::StatusLines;
 
 /// The greatest limit of frames that a certificate may name.
 pub(crate) const MOST_FRAMES: u16 = 4096;
@@ -130,8 +131,8 @@ pub enum Command<'s, 'a> {
         seed: u64,
         /// The most steps that are made.
         budget: u32,
-        /// Whether status lines are written too.
-        status: bool,
+        /// How status lines are shown.
+        status: StatusLines,
         /// The name of the file that saves are kept in, if there is one.
         save: Option<&'a str>,
         /// Whether each save that is refused is told on the errors.
@@ -387,7 +388,7 @@ fn play_of<'s, 'a>(matches: &'s ArgMatches<'a>) -> Command<'s, 'a>
     // What the words leave out clap fills in, so that no 0 comes of that.
     let seed = matches.get_one("seed").unwrap_or(0);
     let budget = matches.get_one("budget").unwrap_or(0);
-    let status = matches.get_one("status").unwrap_or(false);
+    let status = status_lines_of(matches);
     let save = matches.get_str("save");
     let tell = matches.get_one("tell").unwrap_or(false);
     let force = matches.get_one("force").unwrap_or(false);
@@ -402,6 +403,19 @@ fn play_of<'s, 'a>(matches: &'s ArgMatches<'a>) -> Command<'s, 'a>
         tell,
         force,
         lenient,
+    }
+}
+
+/// How status lines are shown, by the matches of `play`.
+fn status_lines_of<'a>(matches: &ArgMatches<'a>) -> StatusLines
+    ensures { result ≡ status_lines_of (rows_of (found_of matches.now)) }
+{
+    if matches.get_one("framed-status").unwrap_or(false) {
+        StatusLines::Framed
+    } else if matches.get_one("status").unwrap_or(false) {
+        StatusLines::Bracketed
+    } else {
+        StatusLines::Hidden
     }
 }
 

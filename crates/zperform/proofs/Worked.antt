@@ -57,6 +57,7 @@ use Rattle.zperform.specs.Playing.{ComesTo, Holds, IsPlayed, IsRefused}
 use Rattle.zperform.specs.declared.accepting.TheConstants.{STORY_LIMIT}
 use Rattle.zperform.proofs.AcceptLemmas.{story_bytes}
 use Rattle.zperform.specs.Report.{line_of, place_text, problem_of_checking, problem_of_listing, problem_of_load, problem_of_play, problem_of_reading, problem_of_stream, status_of, text_of}
+use Rattle.zscreen.specs.declared.status_lines.StatusLines.TheVariants.{Bracketed, Hidden}
 
 -- ---- what is said, and the exit statuses
 
@@ -335,9 +336,9 @@ blamed :
     IsBlamed (ListStory (5 ∷ []) None false) (drawer 0 [] [] (5 ∷ [])) × (IsBlamed (ListStory (5 ∷ []) None false) (drawer 0 [] [] (6 ∷ [])) → ⊥)
     × IsBlamed (ListStory (5 ∷ []) (Some (6 ∷ [])) false) (drawer 0 [] [] (5 ∷ [])) × (IsBlamed (ListStory (5 ∷ []) (Some (6 ∷ [])) false) (drawer 0 (5 ∷ []) [] (6 ∷ [])) → ⊥)
     × (IsBlamed (ListStory (5 ∷ []) (Some (6 ∷ [])) false) (drawer 0 [] [] (7 ∷ [])) → ⊥)
-    × IsBlamed (Play (5 ∷ []) None 1 100 false (Some (6 ∷ [])) false false false) (drawer 0 [] [] (5 ∷ [])) × (IsBlamed (Play (5 ∷ []) None 1 100 false (Some (6 ∷ [])) false false false) (drawer 0 [] [] (6 ∷ [])) → ⊥)
+    × IsBlamed (Play (5 ∷ []) None 1 100 Hidden (Some (6 ∷ [])) false false false) (drawer 0 [] [] (5 ∷ [])) × (IsBlamed (Play (5 ∷ []) None 1 100 Hidden (Some (6 ∷ [])) false false false) (drawer 0 [] [] (6 ∷ [])) → ⊥)
     × IsBlamed (Check (5 ∷ []) (6 ∷ []) false) (drawer 0 [] [] (5 ∷ [])) × (IsBlamed (Check (5 ∷ []) (6 ∷ []) false) (drawer 0 (5 ∷ []) [] (6 ∷ [])) → ⊥) × (IsBlamed (Check (5 ∷ []) (6 ∷ []) false) (drawer 0 [] [] (7 ∷ [])) → ⊥)
-    × IsBlamed (Play (5 ∷ []) (Some (6 ∷ [])) 1 100 false None false false false) (drawer 0 [] [] (5 ∷ [])) × (IsBlamed (Play (5 ∷ []) (Some (6 ∷ [])) 1 100 false None false false false) (drawer 0 (5 ∷ []) [] (6 ∷ [])) → ⊥)
+    × IsBlamed (Play (5 ∷ []) (Some (6 ∷ [])) 1 100 Hidden None false false false) (drawer 0 [] [] (5 ∷ [])) × (IsBlamed (Play (5 ∷ []) (Some (6 ∷ [])) 1 100 Hidden None false false false) (drawer 0 (5 ∷ []) [] (6 ∷ [])) → ⊥)
     × IsBlamed (Show (5 ∷ []) (6 ∷ []) None) (drawer 0 [] [] (5 ∷ [])) × (IsBlamed (Show (5 ∷ []) (6 ∷ []) None) (drawer 0 (5 ∷ []) [] (6 ∷ [])) → ⊥)
     × IsBlamed (Find (5 ∷ []) (6 ∷ []) None false false false false) (drawer 0 [] [] (5 ∷ [])) × (IsBlamed (Find (5 ∷ []) (6 ∷ []) None false false false false) (drawer 0 (5 ∷ []) [] (6 ∷ [])) → ⊥) × (IsBlamed (Explain (Some (5 ∷ [])) false) (drawer 0 [] [] (5 ∷ [])) → ⊥)
 unfolding drawer
@@ -392,20 +393,20 @@ never story certificate before now options outside = (λ no. no, none, λ no. no
     none (inr accepts) = accepts
 
 -- input is read for a play alone
-input_read : (is_quiet (ListStory (codes "hello.z3") None true) ≡ true) × (is_quiet (ListStory (codes "hello.z3") (Some (codes "hello.cert")) true) ≡ true) × (is_quiet (Find (codes "hello.z3") (codes "hello.cert") None false false false true) ≡ true) × (is_quiet (Explain (Some (codes "I5")) true) ≡ true) × (is_quiet (Check (codes "hello.z3") (codes "hello.cert") true) ≡ true) × (is_quiet (Play (codes "hello.z3") None 1 100 false None false false false) ≡ false)
+input_read : (is_quiet (ListStory (codes "hello.z3") None true) ≡ true) × (is_quiet (ListStory (codes "hello.z3") (Some (codes "hello.cert")) true) ≡ true) × (is_quiet (Find (codes "hello.z3") (codes "hello.cert") None false false false true) ≡ true) × (is_quiet (Explain (Some (codes "I5")) true) ≡ true) × (is_quiet (Check (codes "hello.z3") (codes "hello.cert") true) ≡ true) × (is_quiet (Play (codes "hello.z3") None 1 100 Hidden None false false false) ≡ false)
 input_read = (refl, refl, refl, refl, refl, refl)
 
 -- on a terminal a play tells of refused saves, whether that is asked for or not; elsewhere what is asked for is done
 told_on_a_terminal :
-    (spoken Words (Play (1 ∷ []) None 1 2 true (Some (7 ∷ [])) false false false) ≡ Play (1 ∷ []) None 1 2 true (Some (7 ∷ [])) true false false)
-    × (spoken Codes (Play (1 ∷ []) (Some (2 ∷ [])) 1 2 false (Some (7 ∷ [])) false true false) ≡ Play (1 ∷ []) (Some (2 ∷ [])) 1 2 false (Some (7 ∷ [])) false true false)
-    × (spoken Codes (Play (1 ∷ []) None 1 2 false None true false false) ≡ Play (1 ∷ []) None 1 2 false None true false false) × (spoken Words (Check (1 ∷ []) (2 ∷ []) true) ≡ Check (1 ∷ []) (2 ∷ []) true)
+    (spoken Words (Play (1 ∷ []) None 1 2 Bracketed (Some (7 ∷ [])) false false false) ≡ Play (1 ∷ []) None 1 2 Bracketed (Some (7 ∷ [])) true false false)
+    × (spoken Codes (Play (1 ∷ []) (Some (2 ∷ [])) 1 2 Hidden (Some (7 ∷ [])) false true false) ≡ Play (1 ∷ []) (Some (2 ∷ [])) 1 2 Hidden (Some (7 ∷ [])) false true false)
+    × (spoken Codes (Play (1 ∷ []) None 1 2 Hidden None true false false) ≡ Play (1 ∷ []) None 1 2 Hidden None true false false) × (spoken Words (Check (1 ∷ []) (2 ∷ []) true) ≡ Check (1 ∷ []) (2 ∷ []) true)
 told_on_a_terminal = (refl, refl, refl, refl)
 
 -- a file may be written for a certificate and for saves
 files_written :
     (written_by (ListStory (codes "hello.z3") None true) ≡ None) × (written_by (ListStory (codes "hello.z3") (Some (codes "hello.cert")) true) ≡ None) × (written_by (Find (codes "hello.z3") (codes "hello.cert") None false false false true) ≡ Some (codes "hello.cert")) × (written_by (Check (codes "hello.z3") (codes "hello.cert") true) ≡ None)
-    × (written_by (Play (codes "hello.z3") None 1 100 false (Some (codes "a.qzl")) false false false) ≡ Some (codes "a.qzl")) × (written_by (Explain (Some (codes "I5")) true) ≡ None)
+    × (written_by (Play (codes "hello.z3") None 1 100 Hidden (Some (codes "a.qzl")) false false false) ≡ Some (codes "a.qzl")) × (written_by (Explain (Some (codes "I5")) true) ≡ None)
 files_written = (refl, refl, refl, refl, refl, refl)
 
 -- a text that was found isn't kept by a file of other bytes
@@ -430,15 +431,15 @@ begun_so = (refl, refl, refl, refl, λ e. absurd cc, λ e. omega (arith, ap (λ 
 -- a certificate that is found and saves are kept so, unless any file may be written over
 kept_so :
     (kept_in (Find (1 ∷ []) (2 ∷ []) None false false false false) ≡ Some (2 ∷ [], purposes.Certificate)) × (kept_in (Find (1 ∷ []) (2 ∷ []) None true true true false) ≡ None)
-    × (kept_in (Play (1 ∷ []) None 1 2 false (Some (7 ∷ [])) true false false) ≡ Some (7 ∷ [], purposes.Save)) × (kept_in (Play (1 ∷ []) (Some (2 ∷ [])) 1 2 false (Some (7 ∷ [])) false true false) ≡ None)
-    × (kept_in (Play (1 ∷ []) None 1 2 true None true false false) ≡ None) × (kept_in (Check (1 ∷ []) (2 ∷ []) false) ≡ None)
+    × (kept_in (Play (1 ∷ []) None 1 2 Hidden (Some (7 ∷ [])) true false false) ≡ Some (7 ∷ [], purposes.Save)) × (kept_in (Play (1 ∷ []) (Some (2 ∷ [])) 1 2 Hidden (Some (7 ∷ [])) false true false) ≡ None)
+    × (kept_in (Play (1 ∷ []) None 1 2 Bracketed None true false false) ≡ None) × (kept_in (Check (1 ∷ []) (2 ∷ []) false) ≡ None)
 kept_so = (refl, refl, refl, refl, refl, refl)
 
 -- a story's file isn't written over by saves, and a file of saves is, or by anything where that is asked for
 module _ (story saves : List ℕ → Option (List ℕ)) (is : story (7 ∷ []) ≡ Some (3 ∷ 0 ∷ [])) (are : saves (7 ∷ []) ≡ Some (codes "FORM")) where
   occupied :
-      IsOccupied (Play (7 ∷ []) None 1 2 false (Some (7 ∷ [])) false false false) story (Occupied purposes.Save) × (MayWrite (Play (7 ∷ []) None 1 2 false (Some (7 ∷ [])) false false false) story → ⊥)
-      × MayWrite (Play (1 ∷ []) None 1 2 false (Some (7 ∷ [])) false false false) saves × MayWrite (Play (7 ∷ []) None 1 2 false (Some (7 ∷ [])) false true false) story
+      IsOccupied (Play (7 ∷ []) None 1 2 Hidden (Some (7 ∷ [])) false false false) story (Occupied purposes.Save) × (MayWrite (Play (7 ∷ []) None 1 2 Hidden (Some (7 ∷ [])) false false false) story → ⊥)
+      × MayWrite (Play (1 ∷ []) None 1 2 Hidden (Some (7 ∷ [])) false false false) saves × MayWrite (Play (7 ∷ []) None 1 2 Hidden (Some (7 ∷ [])) false true false) story
       × (IsOccupied (Find (1 ∷ []) (7 ∷ []) None false false false false) story (Occupied purposes.Save) → ⊥)
   occupied = (((7 ∷ [], purposes.Save), refl, refl, rw is other), rw is other, rw are refl, tt, another)
     where

@@ -64,6 +64,7 @@ use Rattle.zperform.specs.declared.outcome.Problem.{Problem}
 use Rattle.zperform.specs.Informing.{name_of_certificate}
 use Rattle.zperform.specs.Playing.{ComesTo, IsPlayed, IsRefused}
 use Rattle.zperform.proofs.AcceptLemmas.{story_bytes}
+use Rattle.zscreen.specs.declared.status_lines.StatusLines.TheVariants.{Bracketed, Hidden}
 
 -- ---- devices
 
@@ -189,7 +190,7 @@ each_told = (
 -- they are told where that is asked for and saves are in a file, and by plays alone
 told_where :
     (said_of true (Some (7 ∷ [])) (Length ∷ NotForm ∷ []) ≡ Length ∷ NotForm ∷ []) × (said_of false (Some (7 ∷ [])) (Length ∷ []) ≡ []) × (said_of true None (Length ∷ []) ≡ [])
-    × (said_by (Play (1 ∷ []) None 1 2 false (Some (7 ∷ [])) true false false) (Length ∷ []) ≡ Length ∷ []) × (said_by (Play (1 ∷ []) None 1 2 true (Some (7 ∷ [])) false false false) (Length ∷ []) ≡ []) × (said_by (Find (1 ∷ []) (2 ∷ []) None false false false false) (Length ∷ []) ≡ [])
+    × (said_by (Play (1 ∷ []) None 1 2 Hidden (Some (7 ∷ [])) true false false) (Length ∷ []) ≡ Length ∷ []) × (said_by (Play (1 ∷ []) None 1 2 Bracketed (Some (7 ∷ [])) false false false) (Length ∷ []) ≡ []) × (said_by (Find (1 ∷ []) (2 ∷ []) None false false false false) (Length ∷ []) ≡ [])
 told_where = (refl, refl, refl, refl, refl, refl)
 
 -- want of memory is told, and nothing else is done

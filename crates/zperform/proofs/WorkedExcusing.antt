@@ -20,6 +20,7 @@ use Rattle.zperform.specs.Wording.{short_text}
 use Rattle.zperform.specs.declared.blame.Blame.{Blame}
 use Rattle.zperform.specs.declared.outcome.Outcome.{Outcome}
 use Rattle.zperform.specs.declared.outcome.Problem.{Problem}
+use Rattle.zscreen.specs.declared.status_lines.StatusLines.TheVariants.{Hidden}
 
 -- an object that isn't there at 0x329, twice, and a division by 0 at 0x40c
 abbrev object : Note
@@ -47,8 +48,8 @@ module _ (answered : Answered) (others : List Answered) (a b c : Seen) (blame : 
 
 -- a lenient play looks for no certificate, so that none can fail beside the story
 spared :
-    (spared_in (Play (codes "a.z3") None 1 2 false None false false true) ≡ None) × (spared_in (Play (codes "a.z3") None 1 2 false (Some (7 ∷ [])) false false true) ≡ Some (7 ∷ []))
-    × (spared_in (Play (codes "a.z3") None 1 2 false None false false false) ≡ Some (name_of_certificate (codes "a.z3")))
+    (spared_in (Play (codes "a.z3") None 1 2 Hidden None false false true) ≡ None) × (spared_in (Play (codes "a.z3") None 1 2 Hidden (Some (7 ∷ [])) false false true) ≡ Some (7 ∷ []))
+    × (spared_in (Play (codes "a.z3") None 1 2 Hidden None false false false) ≡ Some (name_of_certificate (codes "a.z3")))
 spared = (refl, refl, refl)
 
 -- what it comes to and tells

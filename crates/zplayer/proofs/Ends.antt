@@ -14,6 +14,7 @@ use Rattle.zstate.specs.State.{Setting, State}
 use Rattle.zstate.specs.Run.{Ending, Input, after, run}
 use Rattle.zplayer.specs.Playing.{Finishes, Stage, end_of}
 use Rattle.zplayer.proofs.Stages.{leads_run}
+use Rattle.zscreen.specs.declared.status_lines.StatusLines.{StatusLines}
 
 no_fault_of : (stop : Stop) → IsNoFault stop → (fault : Fault) (place : ℤ) → end_of stop ≢ ends.Fault fault place
 no_fault_of (stops.Paused pauses.NeedLine) h fault place = λ e. cc
@@ -26,7 +27,7 @@ no_fault_of (stops.Paused pauses.FrameLimit) h fault place = λ e. cc
 no_fault_of (stops.Fault f p) h fault place = absurd h
 
 -- so a play that has come to its end ends with none, where none comes of the state that it has come to
-pub finished_well : (m : Setting) (Takes : State → Type 0) (asked : Bool) (old new : Stage) (before now : Option (List ℕ)) (end : End) (n : Setting) → n ≡ m → IsNoFault (run n [] new.left new.state).stop → Finishes m Takes asked old new before now end → (fault : Fault) (place : ℤ) → end ≢ ends.Fault fault place
+pub finished_well : (m : Setting) (Takes : State → Type 0) (asked : StatusLines) (old new : Stage) (before now : Option (List ℕ)) (end : End) (n : Setting) → n ≡ m → IsNoFault (run n [] new.left new.state).stop → Finishes m Takes asked old new before now end → (fault : Fault) (place : ℤ) → end ≢ ends.Fault fault place
 finished_well m Takes asked old new before now end n same fine finished fault place = λ e.
     let whole : run m (finished.inputs ++ []) old.left old.state ≡ after finished.given (run m [] new.left new.state) = leads_run m Takes finished.inputs [] old new finished.given finished.leads in
     let stop : (run m finished.inputs old.left old.state).stop ≡ (run m [] new.left new.state).stop = ap (λ (l : List Input). (run m l old.left old.state).stop) (sym (append-nil finished.inputs)) ∙ ap (λ (x : Ending). x.stop) whole in

@@ -38,6 +38,7 @@ use Rattle.zplayer.specs.Playing.{Meets, Supplies, Walks, WantsOrSaves, end_of, 
 use Rattle.zplayer.specs.Leniently.{Answers as Excuses, BreaksLeniently, Excused, FinishesLeniently, Handed, Happening, LeadsLeniently, Noted, PlaysLeniently, PlaysLenientlyInPart, Reach, WantsLeniently, inputs_of, notes_of, reach, with_note, with_notes}
 use Rattle.zplayer.specs.LenientCalls.{WritesSeen, WritesSeenInPart, shown}
 use Rattle.zplayer.proofs.Stages.{awaits_step, fewer_to_come, meets_join, to_come, walks_join, walks_none}
+use Rattle.zscreen.specs.declared.status_lines.StatusLines.{StatusLines}
 
 -- ---- what is seen of what is given out
 
@@ -287,14 +288,14 @@ noted_still hs input old now so_far = so_far ∙ ap (λ (l : List Note). with_no
 -- ---- what comes of a play so far
 
 -- before the first turn
-pub starts : (m : Setting) (Takes : State → Type 0) (asked : Bool) (n : ℕ) (s : State) (f : Front) (ahead : Ahead) (input : Option (List ℕ)) (words : Option Coming) (store : Store) (c : Option (List ℕ)) → ahead ≡ record { held = []; ended = false }
+pub starts : (m : Setting) (Takes : State → Type 0) (asked : StatusLines) (n : ℕ) (s : State) (f : Front) (ahead : Ahead) (input : Option (List ℕ)) (words : Option Coming) (store : Store) (c : Option (List ℕ)) → ahead ≡ record { held = []; ended = false }
     → PlaysLeniently m Takes asked [] (reach n s (world input words store) f) (reach n s (world (unused ahead input) words store) f) c c
 starts m Takes asked n s f ahead input words store c is =
     let same : input ≡ unused ahead input = sym (ap (λ (x : Ahead). unused x input) is ∙ prepend_known-nil input) in
     subst (λ (i : Option (List ℕ)). PlaysLeniently m Takes asked [] (reach n s (world input words store) f) (reach n s (world i words store) f) c c) same
     (record { given = []; leads = ([], walks_none m Takes (stage n s (world input words store)), refl, sym (seen_none f)); written = Appends-nil c })
 
-module _ (m : Setting) (Takes : State → Type 0) (asked : Bool) (hs : List Happening) (a : Reach) (b : Reach) (x y : Option (List ℕ)) (so_far : PlaysLeniently m Takes asked hs a b x y) where
+module _ (m : Setting) (Takes : State → Type 0) (asked : StatusLines) (hs : List Happening) (a : Reach) (b : Reach) (x y : Option (List ℕ)) (so_far : PlaysLeniently m Takes asked hs a b x y) where
   plays_on : (gs : List Happening) (c : Reach) (z : Option (List ℕ)) (ys : List Item) → LeadsLeniently m Takes gs b c ys → Appends y z (render asked ys) → PlaysLeniently m Takes asked (hs ++ gs) a c x z
   plays_on gs c z ys leads written = record {
     given = so_far.given ++ ys;
@@ -342,7 +343,7 @@ module _ (m : Setting) (Takes : State → Type 0) (asked : Bool) (hs : List Happ
 
 -- ---- what one turn makes of a play so far
 
-module _ (m : Setting) (Takes : State → Type 0) (asked : Bool) (hs : List Happening) (a : Reach) (left : ℕ) (s : State) (w : World) (f : Front) (x y : Option (List ℕ)) (so_far : PlaysLeniently m Takes asked hs a (reach left s w f) x y)
+module _ (m : Setting) (Takes : State → Type 0) (asked : StatusLines) (hs : List Happening) (a : Reach) (left : ℕ) (s : State) (w : World) (f : Front) (x y : Option (List ℕ)) (so_far : PlaysLeniently m Takes asked hs a (reach left s w f) x y)
     (n : Setting) (same : n ≡ m) (shows : Bool) (is_shown : shows ≡ is_seen f) (k : ℕ) (t : State) (z : Option (List ℕ)) where
   pub turn_made : WritesSeen n asked shows left k s t y z → PlaysLeniently m Takes asked hs a (reach k t w f) x z
   turn_made turn = subst (λ (l : List Happening). PlaysLeniently m Takes asked l a (reach k t w f) x z) (append-nil hs)
@@ -373,7 +374,7 @@ module _ (m : Setting) (Takes : State → Type 0) (asked : Bool) (hs : List Happ
 
 -- ---- and what comes behind it
 
-module _ (m : Setting) (Takes : State → Type 0) (asked : Bool) (hs : List Happening) (a : Reach) (k : ℕ) (t : State) (input : Option (List ℕ)) (words : Option Coming) (store : Store) (f : Front) (x y : Option (List ℕ))
+module _ (m : Setting) (Takes : State → Type 0) (asked : StatusLines) (hs : List Happening) (a : Reach) (k : ℕ) (t : State) (input : Option (List ℕ)) (words : Option Coming) (store : Store) (f : Front) (x y : Option (List ℕ))
     (so_far : PlaysLeniently m Takes asked hs a (reach k t (world input words store) f) x y) (n : Setting) (same : n ≡ m) (u : State) (z : Option (List ℕ)) (kept : Keeps y z) where
   abbrev pub here : World
   here = world input words store
@@ -420,7 +421,7 @@ keeps_itself : (y : Option (List ℕ)) → Keeps y y
 keeps_itself None = tt
 keeps_itself (Some bytes) = refl
 
-module _ (m : Setting) (Takes : State → Type 0) (asked : Bool) (hs : List Happening) (a : Reach) (k : ℕ) (t : State) (w : World) (f : Front) (x y : Option (List ℕ)) (so_far : PlaysLeniently m Takes asked hs a (reach k t w f) x y)
+module _ (m : Setting) (Takes : State → Type 0) (asked : StatusLines) (hs : List Happening) (a : Reach) (k : ℕ) (t : State) (w : World) (f : Front) (x y : Option (List ℕ)) (so_far : PlaysLeniently m Takes asked hs a (reach k t w f) x y)
     (n : Setting) (same : n ≡ m) (fault : Fault) (faults : step n t ≡ Err (halts.Fault fault)) where
   pub answered : (rest : ℕ) (u : State) (g : Front) → lenient_step n t ≡ Ok (record { state = u; items = [] }) → k ≡ rest + 1 → g ≡ front_after n t f
       → PlaysLeniently m Takes asked (hs ++ Excused (record { fault = fault; place = t.place }) ∷ []) a (reach rest u w g) x y
@@ -469,7 +470,7 @@ answered_to_come left k rest s u steps all one = fewer_to_come rest left s u (om
 
 -- ---- a flush at the end
 
-module _ (m : Setting) (Takes : State → Type 0) (wants : State → Type 0) (asked : Bool) (hs : List Happening) (a b : Reach) (x y z : Option (List ℕ)) (kept : Keeps y z) where
+module _ (m : Setting) (Takes : State → Type 0) (wants : State → Type 0) (asked : StatusLines) (hs : List Happening) (a b : Reach) (x y z : Option (List ℕ)) (kept : Keeps y z) where
   -- that was done
   pub end_flushed : (r : Result End PlayError) → ¬ IsErrOf r errors.Write → MatchResult r (FinishesLeniently m Takes asked hs a b x y) (BreaksLeniently m Takes wants asked hs a b x y) → MatchResult r (FinishesLeniently m Takes asked hs a b x z) (BreaksLeniently m Takes wants asked hs a b x z)
   end_flushed (Ok end) well f = record { given = f.given; leads = f.leads; ended = f.ended; state_is = f.state_is; whole = f.whole; noted = f.noted; written = Appends-kept x y z (render asked f.given) f.written kept; unanswered = f.unanswered }

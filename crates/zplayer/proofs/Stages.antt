@@ -36,6 +36,7 @@ use Rattle.zplayer.specs.Lines.{Ahead, unused}
 use Rattle.zplayer.specs.Outside.{Coming}
 use Rattle.zplayer.specs.World.{Answers, Asks, IsRefused, Refuses, Store, World, world}
 use Rattle.zplayer.specs.Playing.{Breaks, Finishes, Leads, Meets, Plays, PlaysInPart, Restores, Stage, Supplies, Walks, Writes, WritesInPart, end_of, stage}
+use Rattle.zscreen.specs.declared.status_lines.StatusLines.{StatusLines}
 
 -- ---- what the world's answers are to a state that needs them
 
@@ -191,7 +192,7 @@ module _ (m : Setting) (Takes : State → Type 0) where
   leads_ends es a b xs stop leads stands none =
       subst (λ (l : List Input). run m l a.left a.state ≡ after xs (ends stop b.state)) (append-nil es) (leads_run es [] a b xs leads ∙ ap (after xs) (stands_still m b.left stop b.state stands none))
 
-  module _ (asked : Bool) where
+  module _ (asked : StatusLines) where
     pub plays_none : (a : Stage) (c : Option (List ℕ)) → Plays m Takes asked a a c c
     plays_none a c = record { inputs = []; given = []; leads = walks_none a; written = Appends-nil c }
 
@@ -255,7 +256,7 @@ module _ (m : Setting) (Takes : State → Type 0) where
 -- ---- what one turn of playing makes of a play so far
 
 -- before the first
-pub starts : (m : Setting) (Takes : State → Type 0) (asked : Bool) (n : ℕ) (s : State) (ahead : Ahead) (input : Option (List ℕ)) (words : Option Coming) (store : Store) (c : Option (List ℕ)) → ahead ≡ record { held = []; ended = false }
+pub starts : (m : Setting) (Takes : State → Type 0) (asked : StatusLines) (n : ℕ) (s : State) (ahead : Ahead) (input : Option (List ℕ)) (words : Option Coming) (store : Store) (c : Option (List ℕ)) → ahead ≡ record { held = []; ended = false }
     → Plays m Takes asked (stage n s (world input words store)) (stage n s (world (unused ahead input) words store)) c c
 starts m Takes asked n s ahead input words store c is =
     let same : input ≡ unused ahead input = sym (ap (λ (x : Ahead). unused x input) is ∙ prepend_known-nil input) in
@@ -269,7 +270,7 @@ pub handed_on : (P : End → Type 0) (Q : PlayError → Type 0) (r : Result End 
 handed_on P Q (Ok end) error (is, same) h = absurd (true≢false (sym is))
 handed_on P Q (Err e) error (is, same) h = subst Q (sym same) h
 
-module _ (m : Setting) (Takes : State → Type 0) (wants : Setting → State → Type 0) (asked : Bool) (a : Stage) (left : ℕ) (s : State) (w : World) (x y : Option (List ℕ)) (so_far : Plays m Takes asked a (stage left s w) x y) (n : Setting) (same : n ≡ m) (k : ℕ) (t : State) (z : Option (List ℕ)) where
+module _ (m : Setting) (Takes : State → Type 0) (wants : Setting → State → Type 0) (asked : StatusLines) (a : Stage) (left : ℕ) (s : State) (w : World) (x y : Option (List ℕ)) (so_far : Plays m Takes asked a (stage left s w) x y) (n : Setting) (same : n ≡ m) (k : ℕ) (t : State) (z : Option (List ℕ)) where
   pub turn_made : Writes n asked left k s t y z → Plays m Takes asked a (stage k t w) x z
   turn_made turn = turns_on m Takes asked a left s w x y so_far k t z (subst (λ (i : Setting). Writes i asked left k s t y z) same turn)
 
@@ -279,7 +280,7 @@ module _ (m : Setting) (Takes : State → Type 0) (wants : Setting → State →
   turn_broke r errors.Write is no_read finished wanted in_part = turns_in_part m Takes asked a left s w x y so_far k t z (subst (λ (i : Setting). WritesInPart i asked left k s t y z) same (in_part is))
   turn_broke r errors.OutOfMemory is no_read finished wanted in_part = (turn_made (finished is), subst (λ (i : Setting). wants i t) same (wanted is))
 
-module _ (m : Setting) (Takes : State → Type 0) (wants : Setting → State → Type 0) (asked : Bool) (a : Stage) (k : ℕ) (t : State) (input : Option (List ℕ)) (words : Option Coming) (store : Store) (x y : Option (List ℕ))
+module _ (m : Setting) (Takes : State → Type 0) (wants : Setting → State → Type 0) (asked : StatusLines) (a : Stage) (k : ℕ) (t : State) (input : Option (List ℕ)) (words : Option Coming) (store : Store) (x y : Option (List ℕ))
     (so_far : Plays m Takes asked a (stage k t (world input words store)) x y) (n : Setting) (same : n ≡ m) (Taken : State → Type 0) (same_takes : (v : State) → (Taken v → Takes v) × (Takes v → Taken v)) (u : State) (z : Option (List ℕ)) (kept : Keeps y z) where
   abbrev pub here : World
   here = world input words store
@@ -318,7 +319,7 @@ module _ (m : Setting) (Takes : State → Type 0) (wants : Setting → State →
 
 -- ---- a flush at the end
 
-module _ (m : Setting) (Takes : State → Type 0) (wants : State → Type 0) (asked : Bool) (a b : Stage) (x y z : Option (List ℕ)) (kept : Keeps y z) where
+module _ (m : Setting) (Takes : State → Type 0) (wants : State → Type 0) (asked : StatusLines) (a b : Stage) (x y z : Option (List ℕ)) (kept : Keeps y z) where
   plays_flushed : Plays m Takes asked a b x y → Plays m Takes asked a b x z
   plays_flushed p = record { inputs = p.inputs; given = p.given; leads = p.leads; written = Appends-kept x y z (render asked p.given) p.written kept }
 
@@ -403,5 +404,5 @@ steps_to_come m n Taken left k s t u w v steps given all goes (input, need, awai
         rw (waits, before) (omega (arith, all))
     go (suc steps) all goes = rw waits (omega (arith, all))
 
-pub given_to_come : (m n : Setting) (Taken : State → Type 0) (asked : Bool) (left k : ℕ) (s t u : State) (w v : World) (y z : Option (List ℕ)) → Writes m asked left k s t y z → Supplies n Taken t w true u v → to_come k u < to_come left s
+pub given_to_come : (m n : Setting) (Taken : State → Type 0) (asked : StatusLines) (left k : ℕ) (s t u : State) (w v : World) (y z : Option (List ℕ)) → Writes m asked left k s t y z → Supplies n Taken t w true u v → to_come k u < to_come left s
 given_to_come m n Taken asked left k s t u w v y z turn supplied = steps_to_come m n Taken left k s t u w v turn.steps turn.given turn.all turn.goes supplied

@@ -29,6 +29,7 @@ use Rattle.zplayer.specs.Lines.{BlamesReader, IsEnded, IsLast, ReadsLine, Hears,
 use Rattle.zplayer.specs.Outside.{Blames, BlamesWriter, Coming, CountsRefusal, words_of}
 use Rattle.zplayer.specs.Playing.{Breaks, GivesOrSaves, Leads, Meets, Plays, PlaysInPart, Stage, Walks, WantsOrSaves, Writes, WritesInPart, end_of, stage}
 use Rattle.zplayer.specs.World.{Answers, Asks, Draws, Gets, HasNone, IsRefused, Puts, Refuses, Resumes, Store, Stores, World, world}
+use Rattle.zscreen.specs.declared.status_lines.StatusLines.{StatusLines}
 
 -- ---- how playing ends
 
@@ -246,7 +247,7 @@ kept_alone :
 kept_alone m Takes s save bytes new (kept, resumes, same) = (kept, same)
 
 -- a play that breaks off has written all that it gave out, but where a write failed
-module _ (m : Setting) (Takes wants : State → Type 0) (asked : Bool) (old new : Stage) (before now : Option (List ℕ)) where
+module _ (m : Setting) (Takes wants : State → Type 0) (asked : StatusLines) (old new : Stage) (before now : Option (List ℕ)) where
   read_whole : Breaks m Takes wants asked old new before now errors.Read → Plays m Takes asked old new before now × (awaited m new.state ≡ Some needs.Line)
   read_whole breaks = breaks
 
@@ -257,7 +258,7 @@ module _ (m : Setting) (Takes wants : State → Type 0) (asked : Bool) (old new 
   written_in_part plays = plays
 
 -- where a write failed, all that came before the turn that was being written is written, and play stands where that turn ended
-module _ (m : Setting) (Takes : State → Type 0) (asked : Bool) (old new : Stage) (before now : Option (List ℕ)) where
+module _ (m : Setting) (Takes : State → Type 0) (asked : StatusLines) (old new : Stage) (before now : Option (List ℕ)) where
   written_before : (part : PlaysInPart m Takes asked old new before now) → Plays m Takes asked old part.at before part.between
   written_before part = part.plays
 
@@ -265,7 +266,7 @@ module _ (m : Setting) (Takes : State → Type 0) (asked : Bool) (old new : Stag
   world_of_turn part = part.same_world
 
 -- of 5,000 steps such a turn makes 1,024 at most, and it may make so many
-module _ (m : Setting) (asked : Bool) (s t : State) (given : List Item) (a b : Option (List ℕ)) where
+module _ (m : Setting) (asked : StatusLines) (s t : State) (given : List Item) (a b : Option (List ℕ)) where
   few_in_turn : (left : ℕ) → WritesInPart m asked 5000 left s t a b → 3976 ≤ left
   few_in_turn left part = omega (arith, part.few, part.all)
 
@@ -275,7 +276,7 @@ module _ (m : Setting) (asked : Bool) (s t : State) (given : List Item) (a b : O
 -- ---- stages
 
 -- never more steps are made than the budget has
-module _ (m : Setting) (Takes : State → Type 0) (asked : Bool) (s t : State) (w : World) (a b : Option (List ℕ)) where
+module _ (m : Setting) (Takes : State → Type 0) (asked : StatusLines) (s t : State) (w : World) (a b : Option (List ℕ)) where
   not_more : Writes m asked 5 6 s t a b → ⊥
   not_more writes = omega (arith, writes.all)
 

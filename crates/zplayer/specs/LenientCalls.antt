@@ -25,6 +25,7 @@ use Rattle.zplayer.specs.declared.end.Options.{Options}
 use Rattle.zplayer.specs.declared.end.PlayError.{PlayError}
 use Rattle.zplayer.specs.declared.lenient.Lenience.{Lenience}
 use Rattle.zplayer.specs.declared.outside.World.{World as Devices}
+use Rattle.zscreen.specs.declared.status_lines.StatusLines.{StatusLines}
 
 -- ---- turns
 
@@ -34,14 +35,14 @@ shown true items = items
 shown false items = []
 
 -- as steps alone write, but that what isn't seen is left out
-pub record WritesSeen (m : Setting) (asked seen : Bool) (budget left : ℕ) (old new : State) (before now : Option (List ℕ)) : Type 0 where
+pub record WritesSeen (m : Setting) (asked : StatusLines) (seen : Bool) (budget left : ℕ) (old new : State) (before now : Option (List ℕ)) : Type 0 where
   pub steps : ℕ
   pub given : List Item
   pub all : steps + left ≡ budget
   pub goes : Goes m steps old new given
   pub written : Appends before now (render asked (shown seen given))
 
-pub record WritesSeenInPart (m : Setting) (asked seen : Bool) (budget left : ℕ) (old new : State) (before now : Option (List ℕ)) : Type 0 where
+pub record WritesSeenInPart (m : Setting) (asked : StatusLines) (seen : Bool) (budget left : ℕ) (old new : State) (before now : Option (List ℕ)) : Type 0 where
   pub steps : ℕ
   pub few : steps ≤ 1024
   pub given : List Item

@@ -27,6 +27,7 @@ use Rattle.zplayer.specs.declared.noting.Answered.{Answered}
 use Rattle.zplayer.specs.declared.end.Options.{Options}
 use Rattle.zplayer.specs.declared.end.PlayError.{PlayError}
 use Rattle.zplayer.specs.declared.end.PlayError.TheVariants as errors
+use Rattle.zscreen.specs.declared.status_lines.StatusLines.{StatusLines}
 
 -- ---- what is noted
 
@@ -107,7 +108,7 @@ module _ (m : Setting) (Takes : State → Type 0) where
   abbrev pub IsLenientRunOf : Type 0
   IsLenientRunOf = (happenings : List Happening) (more : List Input) (old new : Reach) (given : List Item) → LeadsLeniently happenings old new given → lenient_run m (inputs_of happenings ++ more) old.stage.left old.front old.stage.state ≡ behind (notes_of happenings) given (lenient_run m more new.stage.left new.front new.stage.state)
 
-  module _ (asked : Bool) where
+  module _ (asked : StatusLines) where
     -- a play has come from one reach to another, and what it gave out was written
     pub record PlaysLeniently (happenings : List Happening) (old new : Reach) (before now : Option (List ℕ)) : Type 0 where
       pub given : List Item
@@ -143,7 +144,7 @@ module _ (m : Setting) (Takes : State → Type 0) where
   module _ (wants : State → Type 0) where
     -- A play broke off, at a line that couldn't be read, at a write that failed, or where memory was refused for what comes next or for the
     -- answer to a fault.
-    abbrev pub BreaksLeniently : Bool → List Happening → Reach → Reach → Option (List ℕ) → Option (List ℕ) → PlayError → Type 0
+    abbrev pub BreaksLeniently : StatusLines → List Happening → Reach → Reach → Option (List ℕ) → Option (List ℕ) → PlayError → Type 0
     BreaksLeniently asked happenings old new before now errors.Read = PlaysLeniently asked happenings old new before now × (awaited m new.stage.state ≡ Some needs.Line)
     BreaksLeniently asked happenings old new before now errors.Write = PlaysLenientlyInPart asked happenings old new before now
     BreaksLeniently asked happenings old new before now errors.OutOfMemory = PlaysLeniently asked happenings old new before now × wants new.stage.state

@@ -20,6 +20,7 @@ use Rattle.zplayer.specs.declared.end.End.TheVariants as ends
 use Rattle.zplayer.specs.declared.end.Options.{Options}
 use Rattle.zplayer.specs.declared.end.PlayError.{PlayError}
 use Rattle.zplayer.specs.declared.end.PlayError.TheVariants as errors
+use Rattle.zscreen.specs.declared.status_lines.StatusLines.{StatusLines}
 
 -- how playing ends where the run stops so: a need that isn't answered is a want of input, and only a line may be wanting
 abbrev pub end_of : Stop → End
@@ -36,7 +37,7 @@ end_of (stops.Fault fault place) = ends.Fault fault place
 
 -- so much of a budget is left: the rest went into steps from one state to another, and what they gave out was written, with status
 -- lines where they are asked for
-pub record Writes (m : Setting) (asked : Bool) (budget left : ℕ) (old new : State) (before now : Option (List ℕ)) : Type 0 where
+pub record Writes (m : Setting) (asked : StatusLines) (budget left : ℕ) (old new : State) (before now : Option (List ℕ)) : Type 0 where
   pub steps : ℕ
   pub given : List Item
   pub all : steps + left ≡ budget
@@ -44,7 +45,7 @@ pub record Writes (m : Setting) (asked : Bool) (budget left : ℕ) (old new : St
   pub written : Appends before now (render asked given)
 
 -- of what the steps of a turn gave out, a beginning was written: at most 1,024 are made before that is tried
-pub record WritesInPart (m : Setting) (asked : Bool) (budget left : ℕ) (old new : State) (before now : Option (List ℕ)) : Type 0 where
+pub record WritesInPart (m : Setting) (asked : StatusLines) (budget left : ℕ) (old new : State) (before now : Option (List ℕ)) : Type 0 where
   pub steps : ℕ
   pub few : steps ≤ 1024
   pub given : List Item
@@ -93,7 +94,7 @@ module _ (m : Setting) (Takes : State → Type 0) where
   abbrev pub IsRunOf : Type 0
   IsRunOf = (inputs more : List Input) (old new : Stage) (given : List Item) → Leads inputs old new given → run m (inputs ++ more) old.left old.state ≡ after given (run m more new.left new.state)
 
-  module _ (asked : Bool) where
+  module _ (asked : StatusLines) where
     -- a play has come from one stage to another, and what it gave out was written
     pub record Plays (old new : Stage) (before now : Option (List ℕ)) : Type 0 where
       pub inputs : List Input
@@ -134,7 +135,7 @@ module _ (m : Setting) (Takes : State → Type 0) where
   module _ (wants : State → Type 0) where
     -- A play broke off, at a line that couldn't be read, at a write that failed, or where memory was refused for what comes next. But for
     -- what a failed write left out, all was written.
-    abbrev pub Breaks : Bool → Stage → Stage → Option (List ℕ) → Option (List ℕ) → PlayError → Type 0
+    abbrev pub Breaks : StatusLines → Stage → Stage → Option (List ℕ) → Option (List ℕ) → PlayError → Type 0
     Breaks asked old new before now errors.Read = Plays asked old new before now × (awaited m new.state ≡ Some needs.Line)
     Breaks asked old new before now errors.Write = PlaysInPart asked old new before now
     Breaks asked old new before now errors.OutOfMemory = Plays asked old new before now × wants new.state

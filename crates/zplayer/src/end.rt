@@ -3,6 +3,7 @@
 use std::alloc::AllocError;
 use thiserror::Error;
 use zfault::{Fault, Pause};
+use zscreen::StatusLines;
 use zstate::Stop;
 
 /// How to play.
@@ -10,8 +11,8 @@ use zstate::Stop;
 pub struct Options {
     /// The most steps that are made.
     pub budget: u32,
-    /// Whether status lines are written too.
-    pub status: bool,
+    /// How status lines are shown.
+    pub status: StatusLines,
 }
 
 /// How playing ended.

@@ -21,7 +21,7 @@ use std::alloc::{AllocError, Global};
 use zfault::{Fault, Items, Pause, Sink, Source};
 use zlenient::{Front, is_excusable};
 use zref::{CheckedMachine, Excuse};
-use zscreen::write_items;
+use zscreen::{StatusLines, write_items};
 use zstate::{Halt, Stop};
 
 /// What lenient play keeps beside the machine: which of its text is seen, and what faults were answered.
@@ -121,7 +121,7 @@ fn play_turns<R: Source, W: Sink, S: SaveStore, G: Words>(
 fn turn<W: Sink>(
     machine: &mut CheckedMachine,
     writer: &mut W,
-    status: bool,
+    status: StatusLines,
     seen: bool,
     left: &mut u32,
     items: &mut Items,

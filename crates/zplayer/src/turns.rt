@@ -11,7 +11,7 @@ use crate::end::PlayError;
 use crate::machine::Machine;
 use std::alloc::AllocError;
 use zfault::{Failed, Items, Pause, Sink};
-use zscreen::write_items;
+use zscreen::{StatusLines, write_items};
 use zstate::Stop;
 
 /// The most steps that are made before what they gave out is written.
@@ -28,7 +28,7 @@ pub(crate) const HELD: usize = 65_536;
 pub(crate) fn turn<M: Machine, W: Sink>(
     machine: &mut M,
     writer: &mut W,
-    status: bool,
+    status: StatusLines,
     left: &mut u32,
     items: &mut Items,
 ) -> Result<Option<Stop>, PlayError>

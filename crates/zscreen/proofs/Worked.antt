@@ -3,6 +3,7 @@ use Rattle.std.proofs.Common.{◌≡◌, true, false, [], ◌∷◌, ◌++◌, r
 use Rattle.std.specs.Prelude.{pos, negsuc, codes}
 use Rattle.std.specs.Fmt.{digits}
 use Rattle.zfault.specs.declared.item.Item.TheVariants.{Text, Status}
+use Rattle.zscreen.specs.declared.status_lines.StatusLines.TheVariants.{Hidden, Bracketed, Framed}
 use Rattle.zscreen.specs.Rendering.{leading_zeros, time_of_day, score_and_moves, render, shown}
 
 -- one zero before a digit, and none where a digit more or a minus takes its place
@@ -21,15 +22,20 @@ unfolding digits
 scores = (refl, refl, refl)
 
 -- a line of its own, with score, with a time, and with no name
-lines : (shown true (Status (record { name = codes "b"; first = pos 9; second = pos 5; time = false })) ≡ codes "[b | Score: 9 | Moves: 5]" ++ 10 ∷ []) × (shown true (Status (record { name = codes "b"; first = pos 9; second = pos 5; time = true })) ≡ codes "[b | Time: 9:05]" ++ 10 ∷ []) × (shown true (Status (record { name = []; first = pos 0; second = pos 0; time = false })) ≡ codes "[ | Score: 0 | Moves: 0]" ++ 10 ∷ [])
+lines : (shown Bracketed (Status (record { name = codes "b"; first = pos 9; second = pos 5; time = false })) ≡ codes "[b | Score: 9 | Moves: 5]" ++ 10 ∷ []) × (shown Bracketed (Status (record { name = codes "b"; first = pos 9; second = pos 5; time = true })) ≡ codes "[b | Time: 9:05]" ++ 10 ∷ []) × (shown Bracketed (Status (record { name = []; first = pos 0; second = pos 0; time = false })) ≡ codes "[ | Score: 0 | Moves: 0]" ++ 10 ∷ [])
 unfolding digits
 lines = (refl, refl, refl)
 
 -- nothing, where no status lines are asked for
-not_asked : (shown false (Status (record { name = codes "b"; first = pos 9; second = pos 5; time = false })) ≡ []) × (render false (Text 104 ∷ Status (record { name = []; first = pos 23; second = pos 59; time = true }) ∷ Text 105 ∷ []) ≡ 104 ∷ 105 ∷ [])
+not_asked : (shown Hidden (Status (record { name = codes "b"; first = pos 9; second = pos 5; time = false })) ≡ []) × (render Hidden (Text 104 ∷ Status (record { name = []; first = pos 23; second = pos 59; time = true }) ∷ Text 105 ∷ []) ≡ 104 ∷ 105 ∷ [])
 not_asked = (refl, refl)
 
 -- bytes of text as they are, and each item in its place
-in_order : (render true [] ≡ []) × (render false (Text 104 ∷ Text 10 ∷ Text 0 ∷ []) ≡ 104 ∷ 10 ∷ 0 ∷ []) × (render true (Text 62 ∷ Status (record { name = codes "hall"; first = negsuc 6; second = pos 12; time = false }) ∷ Text 104 ∷ []) ≡ codes ">[hall | Score: -7 | Moves: 12]\nh")
+in_order : (render Bracketed [] ≡ []) × (render Hidden (Text 104 ∷ Text 10 ∷ Text 0 ∷ []) ≡ 104 ∷ 10 ∷ 0 ∷ []) × (render Bracketed (Text 62 ∷ Status (record { name = codes "hall"; first = negsuc 6; second = pos 12; time = false }) ∷ Text 104 ∷ []) ≡ codes ">[hall | Score: -7 | Moves: 12]\nh")
 unfolding digits
 in_order = (refl, refl, refl)
+
+-- in a frame: the bytes 2, 31 and 3 stand before the name, behind it and at the end
+frames : (shown Framed (Status (record { name = codes "b"; first = pos 9; second = pos 5; time = false })) ≡ 2 ∷ 98 ∷ 31 ∷ codes "Score: 9 | Moves: 5" ++ 3 ∷ []) × (render Framed (Text 104 ∷ Status (record { name = []; first = pos 23; second = pos 59; time = true }) ∷ Text 105 ∷ []) ≡ 104 ∷ 2 ∷ 31 ∷ codes "Time: 23:59" ++ 3 ∷ 105 ∷ [])
+unfolding digits
+frames = (refl, refl)

@@ -1,7 +1,6 @@
 -- What writes in a row leave, whole or broken off.
 use Rattle.std.proofs.Common.{◌≡◌, ◌≢◌, ℕ, zero, suc, ◌-◌, List, [], ◌∷◌, ◌++◌, length, take, replicate, refl, ap, arith}
 use Rattle.std.specs.Prelude.{Option, Bool, Result, Ok, Err, OnErr, OnOk, min}
-use Rattle.std.specs.Io.KnownBytes.{Appends}
 use Rattle.zfault.specs.Devices.{AppendsBeginning, BreaksOff, LeavesWaiting}
 use Rattle.zfault.proofs.DeviceLemmas.{BreaksOff-after, BreaksOff-append, LeavesWaiting-after}
 

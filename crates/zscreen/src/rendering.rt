@@ -3,6 +3,7 @@
 ghost use Rattle.std.specs.Prelude.{◌≡◌, ◌≢◌, [], IfOk, OnErr};
 ghost use Rattle.zscreen.specs.Rendering.{render};
 
+use crate::status_lines::StatusLines;
 use crate::writing::write_items;
 use std::alloc::{AllocError, Global};
 use zfault::{Failed, Items, Sink};
@@ -39,18 +40,18 @@ impl Sink for Kept {
     }
 }
 
-/// The bytes of all items, with status lines where they are asked for. Want of memory is the only error, and comes only where
+/// The bytes of all items, with status lines as they are asked for. Want of memory is the only error, and comes only where
 /// there is a byte to be shown.
-pub fn render(alloc: Global, items: &Items, status: bool) -> Result<Vec<u8>, AllocError>
-    ensures ok { IfOk result (λ bytes. bytes.items ≡ render status items.now.items) }
-    ensures wanted { OnErr result (render status items.now.items ≢ []) }
+pub fn render(alloc: Global, items: &Items, lines: StatusLines) -> Result<Vec<u8>, AllocError>
+    ensures ok { IfOk result (λ bytes. bytes.items ≡ render lines items.now.items) }
+    ensures wanted { OnErr result (render lines items.now.items ≢ []) }
 {
     let mut kept = Kept {
         bytes: Vec::new(alloc),
         failures: 0,
         waits: false,
     };
-    match write_items(&mut kept, items, status) {
+    match write_items(&mut kept, items, lines) {
         Ok(()) => Ok(kept.bytes),
         Err(Failed) => Err(AllocError),
     }

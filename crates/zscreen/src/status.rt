@@ -1,37 +1,47 @@
 //! Writing a status line.
 
-ghost use Rattle.std.specs.Prelude.{◌≡◌, ◌-◌, ◌++◌, ◌∷◌, OnErr, OnOk, codes, replicate};
+ghost use Rattle.std.specs.Prelude.{◌≡◌, ◌-◌, ◌++◌, ◌∷◌, OnErr, OnOk, replicate};
 ghost use Rattle.zfault.specs.Devices.{BreaksOff, LeavesWaiting, RisesByOne};
-ghost use Rattle.zscreen.specs.Rendering.{numbers, status_line};
+ghost use Rattle.zscreen.specs.Rendering.{numbers, status_shown};
 
 use crate::pieces::write_piece;
+use crate::status_lines::StatusLines;
 use itoa::Buffer;
 use zfault::{Failed, Sink, Status};
 
-/// Writes a status line.
-pub(crate) fn write_status<W: Sink>(sink: &mut W, status: &Status) -> Result<(), Failed>
-    ensures ok { OnOk result (LeavesWaiting (W.contents sink.old) (W.contents sink.new) (W.waits sink.old) (W.waits sink.new) (status_line status.now)) }
-    ensures begun { OnErr result (BreaksOff (W.contents sink.old) (W.contents sink.new) (W.waits sink.old) (W.waits sink.new) (status_line status.now)) }
+/// Writes a status line as it is asked for.
+pub(crate) fn write_status<W: Sink>(
+    sink: &mut W,
+    status: &Status,
+    lines: StatusLines,
+) -> Result<(), Failed>
+    ensures ok { OnOk result (LeavesWaiting (W.contents sink.old) (W.contents sink.new) (W.waits sink.old) (W.waits sink.new) (status_shown lines status.now)) }
+    ensures begun { OnErr result (BreaksOff (W.contents sink.old) (W.contents sink.new) (W.waits sink.old) (W.waits sink.new) (status_shown lines status.now)) }
     ensures quiet { OnOk result (W.failures sink.new ≡ W.failures sink.old) }
     ensures blamed { OnErr result (RisesByOne (W.failures sink.old) (W.failures sink.new)) }
 {
-    write_between(sink, b"[", status, b"]\n")
+    match lines {
+        StatusLines::Hidden => write_piece(sink, b""),
+        StatusLines::Bracketed => write_between(sink, b"[", status, b" | ", b"]\n"),
+        StatusLines::Framed => write_between(sink, b"\x02", status, b"\x1f", b"\x03"),
+    }
 }
 
-// Writes what a status line shows, between two pieces.
+// Writes what a status line shows, between three pieces.
 #[tactic(auto, using(crate::proofs::Writes::whole_after, crate::proofs::Writes::begun_after, crate::proofs::Writes::begun_before, crate::proofs::Writes::third_begun))]
 fn write_between<W: Sink>(
     sink: &mut W,
     before: &[u8],
     status: &Status,
+    middle: &[u8],
     behind: &[u8],
 ) -> Result<(), Failed>
-    ensures ok { OnOk result (LeavesWaiting (W.contents sink.old) (W.contents sink.new) (W.waits sink.old) (W.waits sink.new) (before.now ++ status.now.name ++ codes " | " ++ numbers status.now ++ behind.now)) }
-    ensures begun { OnErr result (BreaksOff (W.contents sink.old) (W.contents sink.new) (W.waits sink.old) (W.waits sink.new) (before.now ++ status.now.name ++ codes " | " ++ numbers status.now ++ behind.now)) }
+    ensures ok { OnOk result (LeavesWaiting (W.contents sink.old) (W.contents sink.new) (W.waits sink.old) (W.waits sink.new) (before.now ++ status.now.name ++ middle.now ++ numbers status.now ++ behind.now)) }
+    ensures begun { OnErr result (BreaksOff (W.contents sink.old) (W.contents sink.new) (W.waits sink.old) (W.waits sink.new) (before.now ++ status.now.name ++ middle.now ++ numbers status.now ++ behind.now)) }
     ensures quiet { OnOk result (W.failures sink.new ≡ W.failures sink.old) }
     ensures blamed { OnErr result (RisesByOne (W.failures sink.old) (W.failures sink.new)) }
 {
-    write_three(sink, before, status.name.as_slice(), b" | ")?;
+    write_three(sink, before, status.name.as_slice(), middle)?;
     write_numbers(sink, status)?;
     write_piece(sink, behind)
 }

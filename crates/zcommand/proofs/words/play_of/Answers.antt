@@ -11,4 +11,4 @@ returns c =
     c.get_one.ensures.none c.get_one.ensures.value (λ t x given. given.0) c.unwrap_or-seed.ensures in
     let budget = number_given 32 (codes "budget") (λ bs r. ParsesUnsigned 32 10 bs r × ExplainsUnsignedError 10 bs r × HasUnsignedDigitsIfOk bs r) found _ _
     c.get_one-2.ensures.none c.get_one-2.ensures.value (λ t x given. given.0) c.unwrap_or-budget.ensures in
-    (refl, story_read found _ _ _ c.get_str.ensures refl c.unwrap_or-story.ensures, certificate_given found _ c.get_str-certificate.ensures, seed, budget, flag_read (codes "status") _ found _ _ c.get_one-3.ensures.none c.get_one-3.ensures.value c.unwrap_or-status.ensures, save_given found _ c.get_str-save.ensures, flag_read (codes "tell") _ found _ _ c.get_one-4.ensures.none c.get_one-4.ensures.value c.unwrap_or-tell.ensures, flag_read (codes "force") _ found _ _ c.get_one-5.ensures.none c.get_one-5.ensures.value c.unwrap_or-force.ensures, flag_read (codes "lenient") _ found _ _ c.get_one-6.ensures.none c.get_one-6.ensures.value c.unwrap_or-lenient.ensures)
+    (refl, story_read found _ _ _ c.get_str.ensures refl c.unwrap_or-story.ensures, certificate_given found _ c.get_str-certificate.ensures, seed, budget, c.status_lines_of-status.ensures, save_given found _ c.get_str-save.ensures, flag_read (codes "tell") _ found _ _ c.get_one-3.ensures.none c.get_one-3.ensures.value c.unwrap_or-tell.ensures, flag_read (codes "force") _ found _ _ c.get_one-4.ensures.none c.get_one-4.ensures.value c.unwrap_or-force.ensures, flag_read (codes "lenient") _ found _ _ c.get_one-5.ensures.none c.get_one-5.ensures.value c.unwrap_or-lenient.ensures)
