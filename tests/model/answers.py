@@ -170,7 +170,7 @@ def played(case, tally):
     is_lenient = "--lenient" in options
     store = Store(case.files.get("saved"), None if is_lenient else certificate) if "--save" in options else None
     kind = LenientMachine if is_lenient else Machine
-    machine = kind(story, int(options.get("--seed", 1)), case.typed, "--status" in options, store, tally.opcodes)
+    machine = kind(story, int(options.get("--seed", 1)), case.typed, "framed" if "--framed-status" in options else "--status" in options, store, tally.opcodes)
     machine.limit = certificate.limit if certificate and not is_lenient else machine.limit
     end = machine.run(int(options["--budget"]))
     for code in machine.told:
@@ -206,7 +206,7 @@ def warnings_of(machine, tally):
 
 
 COMMANDS = {"list": listed, "check": checked, "play": played}
-FLAGS = {"--status", "--tell", "--lenient", "--force", "--strict", "--places", "--plain", "--no-save"}
+FLAGS = {"--status", "--framed-status", "--tell", "--lenient", "--force", "--strict", "--places", "--plain", "--no-save"}
 PLACE = rb"( at ([0-9a-f]{5}|-[0-9]+|[0-9]{7,}))?"  # as `at` tells it
 NONE_FOUND = re.compile(
     rb"refused: (?:G1\nbroken: (S[1-8])|(G[12])" + PLACE + rb"\n(no certificate: [SIU][0-9]{1,2}" + PLACE + rb"|not found))\n"

@@ -56,6 +56,8 @@ def options(draw):
     found = ["--budget", str(draw.choice([0, 1, 7, 40, 200, 200, 600, 2000]))]
     if draw.random() < 0.6:
         found.append("--status")
+    if draw.random() < 0.1:
+        found.append("--framed-status")
     if draw.random() < 0.4:
         found += ["--seed", str(draw.choice([0, 1, 2, draw.randrange(2**32), 2**64 - 1]))]
     if draw.random() < 0.25:

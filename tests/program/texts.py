@@ -188,6 +188,9 @@ class Texts(Plays):
         for machine, words in [("checked", []), ("by its certificate", ["certificate"])]:
             answer = self.program.run(["play", "--status", "story"] + words, given)
             self.count.is_answer(f"{name}, {machine}", answer, printed(b"y" + line + b"y"))
+        name_shown, _, numbers = line[1:-2].partition(b" | ")
+        answer = self.program.run(["play", "--framed-status", "story"], given)
+        self.count.is_answer(f"{name}, in a frame", answer, printed(b"y\x02" + name_shown + b"\x1f" + numbers + b"\x03y"))
 
     def named(self, name, making, table, piece, printed_text):
         """Printed by print_obj, and shown in a status line."""

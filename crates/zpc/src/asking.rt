@@ -1,9 +1,13 @@
 //! What the words ask of the devices of a play.
 
+ghost use Rattle.std.specs.Prelude.{◌≡◌, OnErr, OnOk, map, string_bytes};
+ghost use Rattle.zpc.specs.Words.{behind_first};
+
 use clap::error::ErrorKind;
 use std::alloc::{AllocError, Global};
 use zbatch::name_beside;
 use zcommand::{Command, Front, command_of, front_of, read_words};
+use zscreen::StatusLines;
 
 /// The ending of the name of the file for saves, where none is named on a terminal.
 const SAVE_ENDING: &str = "qzl";
@@ -17,6 +21,8 @@ pub struct Asked<'a> {
     pub has_save: bool,
     /// Whether a file is written over that holds something.
     pub force: bool,
+    /// How status lines are to be shown.
+    pub status: StatusLines,
     /// How text is shown, and the files of text and lines.
     pub front: Front<'a>,
 }
@@ -38,11 +44,13 @@ pub fn asked_by<'a>(alloc: Global, words: &'a [&'a str]) -> Result<Option<Asked<
             story,
             save,
             force,
+            status,
             ..
         } => Ok(Some(Asked {
             story,
             has_save: save.is_some(),
             force,
+            status,
             front,
         })),
         _ => Ok(None),
@@ -59,6 +67,14 @@ pub fn save_beside(alloc: Global, words: &[&str]) -> Result<Option<String>, Allo
     }
 }
 
+/// Whether the words are those of a play whose status lines may stand at the top of a terminal: where nothing else is asked of them, nor of the text.
+pub fn may_be_headed(alloc: Global, words: &[&str]) -> Result<bool, AllocError> {
+    match asked_by(alloc, words)? {
+        Some(asked) => Ok(asked.status == StatusLines::Hidden && !asked.front.plain),
+        None => Ok(false),
+    }
+}
+
 /// Names the file for saves behind the command's own word. Want of memory is the only error.
 pub fn put_save(
     alloc: Global,
@@ -66,10 +82,22 @@ pub fn put_save(
     name: String,
 ) -> Result<(), AllocError> {
     let option = String::from_str(alloc, "--save")?;
+    put_behind(arguments, name)?;
+    put_behind(arguments, option)
+}
+
+/// Asks for status lines in frames, behind the command's own word. Want of memory is the only error.
+pub fn put_frames(alloc: Global, arguments: &mut Vec<String>) -> Result<(), AllocError> {
+    put_behind(arguments, String::from_str(alloc, "--framed-status")?)
+}
+
+/// Puts an argument behind the command's own word, if there is one. Want of memory is the only error, and changes nothing.
+fn put_behind(arguments: &mut Vec<String>, argument: String) -> Result<(), AllocError>
+    ensures ok { OnOk result (map string_bytes arguments.new.items ≡ behind_first (string_bytes argument) (map string_bytes arguments.old.items)) }
+    ensures err { OnErr result (map string_bytes arguments.new.items ≡ map string_bytes arguments.old.items) }
+{
     if arguments.is_empty() {
         return Ok(());
     }
-    arguments.insert(1, name)?;
-    arguments.insert(1, option)?;
-    Ok(())
+    arguments.insert(1, argument)
 }

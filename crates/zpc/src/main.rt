@@ -10,11 +10,13 @@ mod keeping;
 mod manual;
 mod seed;
 mod sources;
+mod terminal;
 
-use crate::asking::{asked_by, put_save, save_beside};
+use crate::asking::{asked_by, may_be_headed, put_frames, put_save, save_beside};
 use crate::front::carry_out;
 use crate::manual::{is_manual_asked, tell_manual};
 use crate::seed::{draw, put_seed, random_in, say_seed};
+use crate::terminal::moves_cursor;
 use std::alloc::{AllocError, Global};
 use std::env;
 use std::io::{ErrorKind, IsTerminal};
@@ -53,7 +55,7 @@ fn run(rt: &HostRuntime) -> u8 {
         Ok(seed) => seed,
         Err(failure) => return fail(failure, &mut errors),
     };
-    if with_save(rt, &mut arguments).is_err() {
+    if with_save(rt, &mut arguments).is_err() || with_frames(rt, &mut arguments).is_err() {
         return fail(Failure::Memory, &mut errors);
     }
     with_words(rt, &arguments, seed, &mut errors)
@@ -84,6 +86,21 @@ fn with_save(rt: &HostRuntime, arguments: &mut Vec<String>) -> Result<(), AllocE
     match name {
         Some(name) => put_save(rt.alloc(), arguments, name),
         None => Ok(()),
+    }
+}
+
+/// Asks for the status lines of a play among the arguments, where one can stand at the top of a terminal.
+fn with_frames(rt: &HostRuntime, arguments: &mut Vec<String>) -> Result<(), AllocError> {
+    if !moves_cursor(rt) {
+        return Ok(());
+    }
+    let words = words_of(rt.alloc(), arguments)?;
+    let is_headed = may_be_headed(rt.alloc(), &words)?;
+    drop(words);
+    if is_headed {
+        put_frames(rt.alloc(), arguments)
+    } else {
+        Ok(())
     }
 }
 

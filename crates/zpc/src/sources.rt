@@ -10,6 +10,9 @@ use zexplain::in_short;
 use zfault::{Failed, Sink, write_whole};
 use zperform::{Failure, Files, Problem, Speech, read_file};
 
+/// How a word begins that may name the file.
+const OPTION: &str = "--debug";
+
 /// The most letters of a code.
 const CODE: usize = 4;
 
@@ -35,8 +38,11 @@ pub fn debug_info<F: Files>(
     }
 }
 
-/// The name of that file.
+/// The name of that file. The words are read only where one of them may name it.
 fn file_named<'a>(alloc: Global, words: &'a [&'a str]) -> Result<Option<&'a str>, Problem> {
+    if !words.iter().any(|word| word.starts_with(OPTION)) {
+        return Ok(None);
+    }
     match read_words(alloc, words) {
         Ok(matches) => Ok(debug_of(&matches)),
         Err(error) if error.kind() == ErrorKind::OutOfMemory => {
