@@ -24,6 +24,9 @@ GAME = read(DATA, "bell.z3")
 LINES = read(HERE, "bell.txt")
 TEXT = re.sub(rb"(?<=\n>)\[[^\n]*\]\n", b"", read(HERE, "bell.out"))
 TURNS = re.split(rb"(?<=\n>)", TEXT)
+STATUS = [re.fullmatch(rb"\[(.*?) \| (.*)\]\n", it) for it in re.findall(rb"(?<=\n>)\[[^\n]*\]\n", read(HERE, "bell.out"))]
+OPENED, CLOSED = b"\x1b[H\x1b[2J\x1b[2r\x1b[2;1H", b"\x1b[r\x1b[999;1H\r\n"
+STOP = b"[more]\r\n\x1b[A\r\x1b[K"  # the key ends a line, which is taken back with the word
 
 
 def wrapped(turn, width):
@@ -50,6 +53,9 @@ def see_fronts(program, count):
     see_seeds(program, count)
     see_terminal(program, count)
     see_lines_of_their_own(program, count)
+    see_stops(program, count)
+    see_status_lines(program, count)
+    see_replay(program, count)
 
 
 def see_widths(program, count):
@@ -134,6 +140,64 @@ def see_terminal(program, count):
         count.see(os.listdir(folder) == ["g.z3"], f"a save with no terminal: {os.listdir(folder)}")
 
 
+def with_stops(shown, rows):
+    """The text of a turn, which stops before what comes behind so many rows but one; and how often that is."""
+    lines = shown.split(b"\n")
+    pages = [lines[at : at + rows - 1] for at in range(0, len(lines), rows - 1)]
+    if pages[-1] == [b""] and len(pages) > 1:
+        pages[-2:] = [[*pages[-2], b""]]
+    shown = [b"\r\n".join(page) for page in pages]
+    return (b"\r\n" + STOP).join(shown), len(pages) - 1
+
+
+def see_stops(program, count):
+    """Text stops behind each screenful, where lines are typed on a terminal with a name."""
+    turn = wrapped(TURNS[0], 40)
+    with room({"g.z3": GAME}) as folder:
+        for rows in (3, 4, 9, turn.count(b"\n") + 1, turn.count(b"\n") + 2):
+            wanted, stops = with_stops(turn, rows)
+            count.see((stops > 0) == (rows <= turn.count(b"\n") + 1), f"{rows} rows stop {stops} times")
+            said = {"TERM": "xterm", "LINES": str(rows + 1)}
+            shown = on_terminal(program, folder, ["play", "g.z3"], "40", [b"\n"] * stops, **said)
+            count.see(shown.startswith(OPENED + wanted), f"{rows} rows: {shown[:400]!r}, and not {wanted[:400]!r}")
+        for words, said in ((["--plain"], {"TERM": "xterm"}), ([], {"TERM": "dumb"}), ([], {}), ([], {"TERM": ""})):
+            shown = on_terminal(program, folder, ["play", *words, "g.z3"], "40", [], LINES="4", **said)
+            count.see(b"more" not in shown and b"\x1b" not in shown, f"no stop wanted with {words}, {said}: {shown[:300]!r}")
+
+
+def drawn(status, width):
+    """A status line at the top, with the cursor where it was."""
+    name, numbers = status[1], status[2]
+    line = b" " + name + b" " * (width - 2 - len(name) - len(numbers)) + numbers + b" "
+    return b"\x1b7\x1b[2r\x1b[1;1H\x1b[7m" + line + b"\x1b[0m\x1b8"
+
+
+def see_status_lines(program, count):
+    """The status line stands at the top, and neither in the text nor in what is kept of it."""
+    lines = LINES.splitlines(keepends=True)[:3]
+    said = {"TERM": "xterm", "LINES": "200"}
+    with room({"g.z3": GAME}) as folder:
+        shown = on_terminal(program, folder, ["play", "--transcript", "kept", "g.z3"], "60", lines, **said)
+        turns = [wrapped(turn, 60).replace(b"\n", b"\r\n") + drawn(status, 60) for turn, status in zip(TURNS, STATUS)][:4]
+        typed = [line.replace(b"\n", b"\r\n") for line in lines]
+        count.see(shown == OPENED + with_lines(turns, typed) + CLOSED, f"a play below its status line: {shown!r}")
+        count.see(read(folder, "kept") == with_lines(TURNS[:4], lines), "what is kept of a play below its status line")
+        shown = on_terminal(program, folder, ["play", "--status", "g.z3"], None, [], **said)
+        line = b"[%s | %s]\r\n" % (STATUS[0][1], STATUS[0][2])
+        count.see(shown.endswith(b"\r\n>" + line) and b"\x1b" not in shown, f"a status line that is asked for: {shown!r}")
+        shown = on_terminal(program, folder, ["play", "none.z3"], None, [], **said)
+        count.see(shown == b"", f"nothing is drawn where nothing is shown: {shown!r}")
+
+
+def see_replay(program, count):
+    """Lines of a file are shown on a terminal as if they were typed."""
+    lines = LINES.splitlines(keepends=True)
+    with room({"g.z3": GAME, "half": b"".join(lines[:2])}) as folder:
+        shown = on_terminal(program, folder, ["play", "--plain", "--replay", "half", "g.z3"], None, [lines[2]])
+        wanted = with_lines(TURNS[:4], lines[:3]).replace(b"\n", b"\r\n")
+        count.see(shown == wanted, f"lines read again on a terminal: {shown!r}")
+
+
 def see_lines_of_their_own(program, count):
     """On a terminal what is told beside the text begins a line, whether a prompt stands there or not; elsewhere it has no line more."""
     with room({"g.z3": GAME}) as folder:
@@ -146,10 +210,12 @@ def see_lines_of_their_own(program, count):
     count.is_answer("an end behind a prompt, on no terminal", program.run(["play", "g"], {"g": GAME}), Answer(0, TURNS[0], b"end: no input\n"))
 
 
-def on_terminal(program, folder, words, columns, lines, errors=subprocess.PIPE):
-    """What a terminal shows of a play, of which each line is typed once nothing more comes, and then the end of the input."""
+def on_terminal(program, folder, words, columns, lines, errors=subprocess.PIPE, **said):
+    """What a terminal shows of a play, of which each line is typed once nothing more comes, and then the end of the input. It has no name,
+    unless that is said, and no more of it is said than its columns."""
     ours, theirs = pty.openpty()
-    surroundings = {name: value for name, value in os.environ.items() if name != "COLUMNS"}
+    surroundings = {name: value for name, value in os.environ.items() if name not in ("COLUMNS", "LINES", "TERM")}
+    surroundings.update(said)
     if columns is not None:
         surroundings["COLUMNS"] = columns
     running = subprocess.Popen([program.path, *words], cwd=folder, stdin=theirs, stdout=theirs, stderr=errors, env=surroundings)

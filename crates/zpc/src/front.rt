@@ -3,13 +3,15 @@
 use crate::asking::Asked;
 use crate::keeping::{open, open_again};
 use crate::sources::{Undebugged, debug_info, refuse};
+use crate::terminal::{Shape, shape};
 use std::alloc::Global;
-use std::env;
 use std::io::{self, IsTerminal, Write};
 use std::rt::Runtime;
 use zdebug::DebugInfo;
 use zfault::{FromRead, Sink, Source, ToWrite};
-use zfront::{Aside, Copied, Cursor, Followed, Lined, Recorded, Screen, Shown, Sourced, Typed};
+use zfront::{
+    Aside, Copied, Cursor, Followed, Headed, Heading, Lined, Paged, Recorded, Screen, Shown, Sourced, Typed, Unframed,
+};
 use zperform::{
     Action, Blame, Cause, Disk, Failure, Files, Outcome, Problem, Speech, fail, perform, read_file,
     report,
@@ -17,12 +19,6 @@ use zperform::{
 
 /// The most bytes that are read of a file of lines.
 const REPLAY_LIMIT: usize = 1 << 24;
-
-/// How many columns a terminal is taken to have that doesn't say so.
-const COLUMNS: u16 = 80;
-
-/// The most columns that are believed.
-const MOST_COLUMNS: u16 = 1000;
 
 /// The files that text and lines are kept in, as far as there are any.
 #[derive(Drop)]
@@ -44,8 +40,12 @@ struct Context<'a> {
     asked: Option<Asked<'a>>,
     /// The source's lines and names, if they are told.
     info: Option<&'a DebugInfo>,
+    /// How the text of a play is shown.
+    shape: Shape,
     /// Where the cursor of a terminal stands.
     cursor: &'a Cursor,
+    /// What the status line at the top says.
+    heading: &'a Heading,
 }
 
 impl<'a> Context<'a> {
@@ -54,6 +54,14 @@ impl<'a> Context<'a> {
         match self.asked {
             Some(_) => None,
             None => self.info,
+        }
+    }
+
+    /// What the status line at the top says, where there is one.
+    fn drawn_heading(self) -> Option<&'a Heading> {
+        match self.shape.heading {
+            Some(_) => Some(self.heading),
+            None => None,
         }
     }
 }
@@ -78,12 +86,15 @@ pub fn carry_out<E: Sink>(
     match kept(rt, asked) {
         Ok(kept) => {
             let cursor = Cursor::new(is_one_terminal(rt));
+            let heading = Heading::new();
             let context = Context {
                 rt,
                 words,
                 asked,
                 info: info.as_ref(),
+                shape: shape(rt, asked),
                 cursor: &cursor,
+                heading: &heading,
             };
             with_output(context, replayed, kept, &mut files, errors)
         }
@@ -140,7 +151,7 @@ struct Ended {
     is_recorded: bool,
 }
 
-/// Does what the words ask for with text that goes to the output, and tells of the source.
+/// Does what the words ask for with text that goes to the output, below a status line if there is one.
 fn with_output<K: Write + Drop, F: Files, E: Sink>(
     context: Context<'_>,
     replayed: Vec<u8>,
@@ -149,7 +160,22 @@ fn with_output<K: Write + Drop, F: Files, E: Sink>(
     errors: &mut E,
 ) -> u8 {
     let mut output = ToWrite::new(context.rt.stdout());
-    let mut sourced = Sourced::new(context.rt.alloc(), &mut output, context.written_info());
+    let mut headed = Headed::new(&mut output, context.heading, context.shape.heading);
+    let status = with_told(context, replayed, kept, files, &mut headed, errors);
+    let _ = headed.close();
+    status
+}
+
+/// Does it with text that tells of the source.
+fn with_told<K: Write + Drop, F: Files, W: Sink, E: Sink>(
+    context: Context<'_>,
+    replayed: Vec<u8>,
+    kept: KeptFiles<K>,
+    files: &mut F,
+    output: &mut W,
+    errors: &mut E,
+) -> u8 {
+    let mut sourced = Sourced::new(context.rt.alloc(), output, context.written_info());
     with_shown(context, replayed, kept, files, &mut sourced, errors)
 }
 
@@ -189,7 +215,24 @@ fn with_sources<K: Write + Drop, F: Files, W: Sink, E: Sink>(
     errors: &mut E,
 ) -> u8 {
     let mut sourced = Sourced::new(context.rt.alloc(), errors, context.info);
-    with_screen(context, replayed, kept, files, shown, &mut sourced)
+    with_pages(context, replayed, kept, files, shown, &mut sourced)
+}
+
+/// Does it with text that stops behind each screenful, if it is to.
+fn with_pages<K: Write + Drop, F: Files, W: Sink, E: Sink>(
+    context: Context<'_>,
+    replayed: Vec<u8>,
+    kept: KeptFiles<K>,
+    files: &mut F,
+    shown: &mut W,
+    errors: &mut E,
+) -> u8 {
+    let mut keys = FromRead::new(context.rt.stdin());
+    let mut paged = match context.shape.rows {
+        Some(rows) => Paged::new(shown, Some(&mut keys), rows),
+        None => Paged::new(shown, None, 0),
+    };
+    with_screen(context, replayed, kept, files, &mut paged, errors)
 }
 
 /// Does it with text that is shown as a play asks, and says at the end where a file isn't whole.
@@ -201,8 +244,7 @@ fn with_screen<K: Write + Drop, F: Files, W: Sink, E: Sink>(
     shown: &mut W,
     errors: &mut E,
 ) -> u8 {
-    let width = width(context.rt, context.asked);
-    let Ok(mut screen) = Screen::new(context.rt.alloc(), shown, width) else {
+    let Ok(mut screen) = Screen::new(context.rt.alloc(), shown, context.shape.width) else {
         return fail(Failure::Memory, errors);
     };
     let ended = with_copy(context, replayed, kept, files, &mut screen, errors);
@@ -229,9 +271,21 @@ fn with_copy<K: Write + Drop, F: Files, W: Sink, E: Sink>(
         transcript: transcript_lines,
     };
     let mut writer = Copied::new(screen, transcript.as_mut());
-    let mut ended = with_lines(context, lines, files, &mut writer, errors);
+    let mut ended = with_text(context, lines, files, &mut writer, errors);
     ended.is_transcribed = ended.is_transcribed && writer.is_whole();
     ended
+}
+
+/// Does it with text out of which the status lines are taken, if they stand at the top.
+fn with_text<K: Write + Drop, F: Files, W: Sink, E: Sink>(
+    context: Context<'_>,
+    lines: Lines<K>,
+    files: &mut F,
+    writer: &mut W,
+    errors: &mut E,
+) -> Ended {
+    let mut text = Unframed::new(writer, context.drawn_heading());
+    with_lines(context, lines, files, &mut text, errors)
 }
 
 /// The lines of a file, which come first, and where lines are kept.
@@ -270,7 +324,14 @@ fn with_replay<K: Write + Drop, F: Files, R: Source, W: Sink, E: Sink>(
         transcript,
     } = lines;
     let mut before = FromRead::new(io::Cursor::new(replayed));
-    let mut reader = Followed::new(&mut before, typed);
+    let mut lines = Lined::new(&mut before);
+    let mut output = ToWrite::new(context.rt.stdout());
+    let mut echo = Shown::new(&mut output, context.cursor);
+    let mut replayed = match context.shape.echoes {
+        true => Recorded::new(&mut lines, Some(&mut echo)),
+        false => Recorded::new(&mut lines, None),
+    };
+    let mut reader = Followed::new(&mut replayed, typed);
     one_by_one(
         context,
         record,
@@ -374,32 +435,6 @@ fn shows_progress(rt: &HostRuntime, words: &[&str]) -> bool {
 /// Whether lines are typed, and text and errors shown, on terminals.
 fn is_one_terminal(rt: &HostRuntime) -> bool {
     rt.stdin().is_terminal() && rt.stdout().is_terminal() && rt.stderr().is_terminal()
-}
-
-/// How many columns text is wrapped at, if it is: on a terminal, unless that isn't wanted, those that it has.
-fn width(rt: &HostRuntime, asked: Option<Asked<'_>>) -> Option<u16> {
-    let Some(Asked { front, .. }) = asked else {
-        return None;
-    };
-    if front.plain {
-        return None;
-    }
-    match front.width {
-        Some(width) => Some(width),
-        None if rt.stdout().is_terminal() => Some(columns(rt)),
-        None => None,
-    }
-}
-
-/// How many columns a terminal has, by what the surroundings say.
-fn columns<R: Runtime>(rt: &R) -> u16 {
-    let Ok(text) = env::var(rt, "COLUMNS") else {
-        return COLUMNS;
-    };
-    match text.as_str().parse::<u16>() {
-        Ok(columns) if 0 < columns && columns <= MOST_COLUMNS => columns,
-        _ => COLUMNS,
-    }
 }
 
 /// How a line on the errors is told: a person who reads them on a terminal gets words, and anything else codes.
