@@ -1,10 +1,10 @@
 -- Bytes are told by what is shown of them.
-use Rattle.std.proofs.Common.{◌≡◌, ◌+◌, ◌*◌, ◌/◌, ◌%◌, ◌<◌, ◌≤◌, ◌==◌, ◌&&◌, ℕ, suc, Bool, true, false, List, [], ◌∷◌, ◌++◌, refl, sym, ap, ◌∙◌, arith, length, drop}
-use Rattle.std.specs.Prelude.{if◌then◌else◌, nat_le, not, slice_index}
+use Rattle.std.proofs.Common.{◌≡◌, ◌/◌, ◌%◌, ◌<◌, ◌==◌, ◌&&◌, ℕ, suc, Bool, true, false, List, [], ◌∷◌, ◌++◌, refl, sym, ap, ◌∙◌, arith, length}
+use Rattle.std.specs.Prelude.{if◌then◌else◌, nat_le, not}
 use Rattle.std.specs.Char.{digit_value}
 use Rattle.std.proofs.lemmas.Bool.{agree_below_at, and_parts, eq-eqb, eqb-true, true≢false}
 use Rattle.zstory.specs.Bytes.{AreBytes}
-use Rattle.zinfo.specs.Shown.{hex_digit, is_plain, shown, shown_byte}
+use Rattle.zinfo.specs.Shown.{hex_digit, is_plain, shown}
 
 value_back : (d : ℕ) → d < 16 → digit_value (hex_digit d) ≡ d
 value_back d below = eqb-true (digit_value (hex_digit d)) d (agree_below_at (λ d. digit_value (hex_digit d) == d) (λ d. true) 16 d refl below)

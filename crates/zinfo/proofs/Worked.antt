@@ -1,5 +1,5 @@
 -- Values of the definitions, computed.
-use Rattle.std.proofs.Common.{◌≡◌, List, ℕ, [], ◌∷◌, ◌++◌, codes, refl}
+use Rattle.std.proofs.Common.{◌≡◌, [], ◌∷◌, ◌++◌, codes, refl}
 use Rattle.std.specs.Fmt.{digits}
 use Rattle.std.specs.Prelude.{pos, negsuc, None, Some, true, false}
 use Rattle.json.specs.Json.{boolean, null, string}
@@ -11,14 +11,14 @@ use Rattle.zinfo.specs.Beside.{code_of, text_of_beside}
 use Rattle.zinfo.specs.Info.{checksum_by}
 use Rattle.zinfo.specs.Object.{kept_of, name_of, object_of_info, readable_of}
 use Rattle.zinfo.specs.Shown.{five_digits, shown}
-use Rattle.zinfo.specs.Text.{checksum_text, place_text, text_of_info, unlisted_text}
+use Rattle.zinfo.specs.Text.{checksum_text, place_text, text_of_info, unlisted_text, unplayed_line}
 use Rattle.zinfo.specs.declared.facts.Beside.TheVariants.{Nothing, Unreadable, Closed, OfAnother, Own}
-use Rattle.zinfo.specs.declared.facts.Checksum.{Checksum}
 use Rattle.zinfo.specs.declared.facts.Checksum.TheVariants.{Right, Unstated, Wrong}
 use Rattle.zinfo.specs.declared.facts.Code.{Code}
 use Rattle.zinfo.specs.declared.facts.Code.TheVariants.{Listed, Unlisted}
 use Rattle.zinfo.specs.declared.facts.Info.{Info}
 use Rattle.zinfo.specs.declared.facts.Kept.{Kept}
+use Rattle.zinfo.specs.declared.facts.Unplayed.{Unplayed}
 
 -- a serial number of digits, one with a backslash and bytes that aren't printed
 serials :
@@ -38,21 +38,36 @@ faults :
 unfolding digits
 faults = (refl, refl, refl)
 
--- a story with a listing
-small : Code → Info
-small code = record { release = 1; serial = codes "260101"; length = 808; checksum = Right 0x396E; objects = 0; words = 0; code = code }
+-- a story, with or without a listing
+small : Code → Unplayed → Info
+small code unplayed = record { release = 1; serial = codes "260101"; length = 808; checksum = Right 0x396E; objects = 0; words = 0; code = code; unplayed = unplayed }
+
+none_met : Unplayed
+none_met = record { split_window = 0; set_window = 0; output_stream = 0; input_stream = 0; sound_effect = 0 }
+
+-- how often each is met
+each_met : Unplayed
+each_met = record { split_window = 3; set_window = 12; output_stream = 5; input_stream = 7; sound_effect = 4096 }
 
 listed :
-    text_of_info (small (Listed 0 2))
+    text_of_info (small (Listed 0 2) none_met)
     ≡ codes "release: 1" ++ 10 ∷ codes "serial: 260101" ++ 10 ∷ codes "length: 808" ++ 10 ∷ codes "checksum: 396e, right" ++ 10 ∷ codes "objects: 0" ++ 10 ∷ codes "words: 0" ++ 10 ∷ codes "routines: 0" ++ 10
-    ∷ codes "instructions: 2" ++ 10 ∷ []
-unfolding digits small
+    ∷ codes "instructions: 2" ++ 10 ∷ codes "opcodes not played: none" ++ 10 ∷ []
+unfolding digits small none_met
 listed = refl
 
+-- the opcodes that are met, in the order of their numbers
+unplayed_lines :
+    (unplayed_line each_met ≡ codes "opcodes not played: split_window 3, set_window 12, output_stream 5, input_stream 7, sound_effect 4096" ++ 10 ∷ [])
+    × (unplayed_line (record none_met { set_window = 1; input_stream = 2 }) ≡ codes "opcodes not played: set_window 1, input_stream 2" ++ 10 ∷ [])
+    × (unplayed_line (record none_met { sound_effect = 10 }) ≡ codes "opcodes not played: sound_effect 10" ++ 10 ∷ [])
+unfolding digits none_met each_met
+unplayed_lines = (refl, refl, refl)
+
 object :
-    object_of_info (codes "a.z3") (codes "00ff") (small (Unlisted (Decode (pos 0x325) (NotInProfile SetWindow)))) (codes "a.cert") Nothing
-    ≡ codes "{\"file\":\"a.z3\",\"sha256\":\"00ff\",\"release\":1,\"serial\":\"260101\",\"length\":808,\"checksum\":14702,\"sum\":14702,\"checksum_right\":true,\"objects\":0,\"words\":0,\"routines\":null,\"instructions\":null,\"code\":\"U1\",\"address\":\"00325\",\"cause\":\"J3\",\"opcode\":\"set_window\",\"certificate\":null,\"certificate_code\":null,\"certificate_readable\":null,\"certificate_version\":null,\"certificate_frames\":null,\"certificate_routines\":null,\"certificate_instructions\":null,\"certificate_marks\":null,\"certificate_facts\":null}" ++ 10 ∷ []
-unfolding digits print_from escape_byte small
+    object_of_info (codes "a.z3") (codes "00ff") (small (Unlisted (Decode (pos 0x325) (NotInProfile SetWindow))) each_met) (codes "a.cert") Nothing
+    ≡ codes "{\"file\":\"a.z3\",\"sha256\":\"00ff\",\"release\":1,\"serial\":\"260101\",\"length\":808,\"checksum\":14702,\"sum\":14702,\"checksum_right\":true,\"objects\":0,\"words\":0,\"routines\":null,\"instructions\":null,\"code\":\"U1\",\"address\":\"00325\",\"cause\":\"J3\",\"opcode\":\"set_window\",\"unplayed_split_window\":3,\"unplayed_set_window\":12,\"unplayed_output_stream\":5,\"unplayed_input_stream\":7,\"unplayed_sound_effect\":4096,\"certificate\":null,\"certificate_code\":null,\"certificate_readable\":null,\"certificate_version\":null,\"certificate_frames\":null,\"certificate_routines\":null,\"certificate_instructions\":null,\"certificate_marks\":null,\"certificate_facts\":null}" ++ 10 ∷ []
+unfolding digits print_from escape_byte small each_met
 object = refl
 
 -- what stands beside a story

@@ -1,9 +1,10 @@
 -- What is told of a story (own).
-use Rattle.std.specs.Prelude.{◌≡◌, ℕ, ◌==◌, if◌then◌else◌, List, length}
+use Rattle.std.specs.Prelude.{◌≡◌, ℕ, ◌==◌, if◌then◌else◌, length}
 use Rattle.zstory.specs.Dictionary.{entry_count}
 use Rattle.zstory.specs.LoadedStory.{LoadedStory, checksum, file_sum, release, serial}
 use Rattle.zlist.specs.Listed.{IsLowestFault, Lists}
 use Rattle.zlist.specs.Listing.{IsInOrder, ListedCode}
+use Rattle.zinfo.specs.Unplayed.{AreCountsOf}
 use Rattle.zinfo.specs.declared.facts.Checksum.{Checksum}
 use Rattle.zinfo.specs.declared.facts.Checksum.TheVariants.{Right, Unstated, Wrong}
 use Rattle.zinfo.specs.declared.facts.Code.{Code}
@@ -32,3 +33,4 @@ pub record IsInfoOf (story : LoadedStory) (info : Info) : Type 0 where
   pub objects : info.objects ≡ story.objects
   pub words : info.words ≡ entry_count story.memory
   pub code : IsCodeOf story info.code
+  pub unplayed : AreCountsOf story info.unplayed

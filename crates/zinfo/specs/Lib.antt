@@ -3,3 +3,5 @@ pub mod Shown
 pub mod Text
 pub mod Beside
 pub mod Object
+pub mod Unplayed
+pub mod Walked

@@ -2,9 +2,7 @@
 use Rattle.std.specs.Prelude.{ℕ, List, [], ◌∷◌, Option, None, Some, option_map, option_and_then, ◌++◌, true, false, codes}
 use Rattle.json.specs.Json.{Json, null, string, boolean}
 use Rattle.zcode.specs.Names.{excluded_name}
-use Rattle.zcode.specs.declared.opcode.Excluded.{Excluded}
 use Rattle.zlist.specs.Listed.{place_of}
-use Rattle.zlist.specs.declared.list_error.ListError.{ListError}
 use Rattle.zlist.specs.declared.list_error.ListError.TheVariants.{Decode}
 use Rattle.zjson.specs.Objects.{Pair, line_of, number, number_or_null, text_or_null}
 use Rattle.zinfo.specs.Beside.{code_of}
@@ -70,7 +68,9 @@ info_pairs file digest info =
     (codes "file", string file) ∷ (codes "sha256", string digest) ∷ (codes "release", number info.release) ∷ (codes "serial", string (shown info.serial)) ∷ (codes "length", number info.length)
     ∷ (codes "checksum", number (stated_of info.checksum)) ∷ (codes "sum", number (sum_of info.checksum)) ∷ (codes "checksum_right", right_of info.checksum)
     ∷ (codes "objects", number info.objects) ∷ (codes "words", number info.words) ∷ (codes "routines", number_or_null (routines_of info.code)) ∷ (codes "instructions", number_or_null (instructions_of info.code))
-    ∷ (codes "code", text_or_null (fault_of info.code)) ∷ (codes "address", text_or_null (address_of info.code)) ∷ (codes "cause", text_or_null (cause_of info.code)) ∷ (codes "opcode", text_or_null (opcode_of info.code)) ∷ []
+    ∷ (codes "code", text_or_null (fault_of info.code)) ∷ (codes "address", text_or_null (address_of info.code)) ∷ (codes "cause", text_or_null (cause_of info.code)) ∷ (codes "opcode", text_or_null (opcode_of info.code))
+    ∷ (codes "unplayed_split_window", number info.unplayed.split_window) ∷ (codes "unplayed_set_window", number info.unplayed.set_window) ∷ (codes "unplayed_output_stream", number info.unplayed.output_stream)
+    ∷ (codes "unplayed_input_stream", number info.unplayed.input_stream) ∷ (codes "unplayed_sound_effect", number info.unplayed.sound_effect) ∷ []
 
 -- the name of the file beside it, if there is one
 abbrev pub name_of : List ℕ → Beside → Json

@@ -1,8 +1,9 @@
 -- What is told of a story, one fact a line (own).
-use Rattle.std.specs.Prelude.{ℕ, ◌/◌, ◌%◌, ℤ, pos, negsuc, nat_lt, Option, None, Some, if◌then◌else◌, List, [], ◌∷◌, ◌++◌, codes, decimal}
+use Rattle.std.specs.Prelude.{ℕ, ◌/◌, ◌%◌, ◌==◌, ℤ, pos, negsuc, nat_lt, Option, None, Some, if◌then◌else◌, List, [], ◌∷◌, ◌++◌, codes, decimal}
 use Rattle.std.specs.Fmt.{signed_decimal}
 use Rattle.zcode.specs.Names.{excluded_name}
 use Rattle.zcode.specs.declared.opcode.Excluded.{Excluded}
+use Rattle.zcode.specs.declared.opcode.Excluded.TheVariants.{SplitWindow, SetWindow, OutputStream, InputStream, SoundEffect}
 use Rattle.zcode.specs.declared.error.DecodeError.{DecodeError}
 use Rattle.zcode.specs.declared.error.DecodeError.TheVariants.{Truncated, NoSuchOpcode, NotInProfile, Operands, Text}
 use Rattle.zlist.specs.Listed.{place_of}
@@ -14,6 +15,7 @@ use Rattle.zinfo.specs.declared.facts.Checksum.TheVariants.{Right, Unstated, Wro
 use Rattle.zinfo.specs.declared.facts.Code.{Code}
 use Rattle.zinfo.specs.declared.facts.Code.TheVariants.{Listed, Unlisted}
 use Rattle.zinfo.specs.declared.facts.Info.{Info}
+use Rattle.zinfo.specs.declared.facts.Unplayed.{Unplayed}
 
 -- the four hexadecimal digits of a word
 abbrev pub four_digits : ℕ → List ℕ
@@ -73,7 +75,29 @@ abbrev pub code_text : Code → List ℕ
 code_text (Listed routines instructions) = number_line (codes "routines") routines ++ number_line (codes "instructions") instructions
 code_text (Unlisted error) = line_of (codes "unlisted") (unlisted_text error)
 
+-- how often an opcode is met that isn't played, as `set_window 12`, or nothing where it isn't met
+abbrev pub entry_text : Excluded → ℕ → List ℕ
+entry_text opcode count = if count == 0 then [] else excluded_name opcode ++ codes " " ++ decimal count
+
+-- an entry behind others, with a comma between them
+abbrev pub with_entry : List ℕ → List ℕ → List ℕ
+with_entry entries [] = entries
+with_entry [] entry = entry
+with_entry entries entry = entries ++ codes ", " ++ entry
+
+-- how often those are met that are
+abbrev pub entries_text : Unplayed → List ℕ
+entries_text counts =
+    with_entry (with_entry (with_entry (with_entry (with_entry [] (entry_text SplitWindow counts.split_window)) (entry_text SetWindow counts.set_window)) (entry_text OutputStream counts.output_stream)) (entry_text InputStream counts.input_stream)) (entry_text SoundEffect counts.sound_effect)
+
+abbrev pub or_none : List ℕ → List ℕ
+or_none [] = codes "none"
+or_none entries = entries
+
+abbrev pub unplayed_line : Unplayed → List ℕ
+unplayed_line counts = line_of (codes "opcodes not played") (or_none (entries_text counts))
+
 abbrev pub text_of_info : Info → List ℕ
 text_of_info info =
     number_line (codes "release") info.release ++ line_of (codes "serial") (shown info.serial) ++ number_line (codes "length") info.length ++ line_of (codes "checksum") (checksum_text info.checksum)
-    ++ number_line (codes "objects") info.objects ++ number_line (codes "words") info.words ++ code_text info.code
+    ++ number_line (codes "objects") info.objects ++ number_line (codes "words") info.words ++ code_text info.code ++ unplayed_line info.unplayed

@@ -4,6 +4,7 @@ ghost use Rattle.std.specs.Prelude.{◌≡◌, IfOk};
 ghost use Rattle.zstory.specs.Dictionary.{entry_count};
 ghost use Rattle.zinfo.specs.Info.{IsCodeOf, IsInfoOf, checksum_by, heading_of};
 
+use crate::counting::unplayed;
 use crate::facts::{Checksum, Code, Heading, Info};
 use byteorder::{BigEndian, ByteOrder};
 use std::alloc::{AllocError, Global};
@@ -11,8 +12,8 @@ use zlist::{ListError, list_story};
 use zstory::Story;
 
 /// What is told of a story: what its header states (Z 11.1), whether its checksum is right (Z 15), how many objects and words of the
-/// dictionary it has, and how many routines and instructions it lists, or what is at fault lowest where it has no listing. Fails only
-/// for want of memory.
+/// dictionary it has, how many routines and instructions it lists, or what is at fault lowest where it has no listing, and at how many
+/// addresses code meets each of the opcodes that aren't played. Fails only for want of memory.
 pub fn info(alloc: Global, story: &Story) -> Result<Info, AllocError>
     ensures { IfOk result (IsInfoOf story.now) }
 {
@@ -27,6 +28,7 @@ pub fn info(alloc: Global, story: &Story) -> Result<Info, AllocError>
         objects: story.objects(),
         words: word_count(story),
         code,
+        unplayed: unplayed(alloc, story)?,
     })
 }
 

@@ -33,6 +33,21 @@ pub enum Code {
     Unlisted(ListError),
 }
 
+/// At how many addresses each opcode that isn't played is met, where code leads if they are passed over.
+#[derive(Clone, Copy, Debug, PartialEq, Eq)]
+pub struct Unplayed {
+    /// Dividing the screen.
+    pub split_window: usize,
+    /// Choosing a window of the screen.
+    pub set_window: usize,
+    /// Choosing where output goes.
+    pub output_stream: usize,
+    /// Choosing where input comes from.
+    pub input_stream: usize,
+    /// Playing a sound.
+    pub sound_effect: usize,
+}
+
 /// What is told of a story.
 #[derive(Clone, Copy, Debug, PartialEq, Eq)]
 pub struct Info {
@@ -50,6 +65,8 @@ pub struct Info {
     pub words: u16,
     /// What code is listed.
     pub code: Code,
+    /// How often code meets what isn't played.
+    pub unplayed: Unplayed,
 }
 
 /// What a certificate has.

@@ -3,15 +3,19 @@
 
 mod asking;
 mod beside;
+mod counting;
 mod facts;
 mod laws;
 mod object;
 mod shown;
+mod standing;
 mod text;
+mod walk;
 
 pub use asking::{heading, info};
 pub use beside::text_of_beside;
-pub use facts::{Beside, Checksum, Code, Heading, Info, Kept};
+pub use counting::unplayed;
+pub use facts::{Beside, Checksum, Code, Heading, Info, Kept, Unplayed};
 pub use laws::shown_bytes_are_told_apart;
 pub use object::object_of_info;
 pub use shown::{five_digits, shown_text};

@@ -17,7 +17,7 @@ use zlist::ListError;
 /// The facts of a story as one object on a line, of the file of a name whose bytes have a digest: `file`, `sha256`, `release`, `serial`
 /// as `shown_text` shows it, `length`, `checksum` (0 where none is stated), `sum`, `checksum_right` (null where none is stated),
 /// `objects`, `words`, and `routines` and `instructions`, or in their place what is at fault: `code`, `address`, and of an instruction
-/// `cause` and `opcode`. Then comes what stands beside it: `certificate`, the name of the file if there is one, `certificate_code` where it
+/// `cause` and `opcode`; then how often code meets each opcode that isn't played, as `unplayed_set_window`. Then comes what stands beside it: `certificate`, the name of the file if there is one, `certificate_code` where it
 /// is no certificate of the story, `certificate_readable`, whether it can be read, and of a certificate of the story `certificate_version`, `certificate_frames`, `certificate_routines`,
 /// `certificate_instructions`, `certificate_marks` and `certificate_facts`. What there isn't is null. Fails only for want of memory.
 pub fn object_of_info(
@@ -54,6 +54,26 @@ pub fn object_of_info(
         Member::new("address", Value::of_text(borrowed(&address))),
         Member::new("cause", Value::of_text(cause_of(info.code))),
         Member::new("opcode", Value::of_text(opcode_of(info.code))),
+        Member::new(
+            "unplayed_split_window",
+            Value::Number(info.unplayed.split_window as u64),
+        ),
+        Member::new(
+            "unplayed_set_window",
+            Value::Number(info.unplayed.set_window as u64),
+        ),
+        Member::new(
+            "unplayed_output_stream",
+            Value::Number(info.unplayed.output_stream as u64),
+        ),
+        Member::new(
+            "unplayed_input_stream",
+            Value::Number(info.unplayed.input_stream as u64),
+        ),
+        Member::new(
+            "unplayed_sound_effect",
+            Value::Number(info.unplayed.sound_effect as u64),
+        ),
         Member::new("certificate", name_of(certificate.as_str(), *beside)),
         Member::new("certificate_code", Value::of_text(borrowed(&code))),
         Member::new("certificate_readable", readable_of(*beside)),

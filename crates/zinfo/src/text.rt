@@ -2,13 +2,13 @@
 
 ghost use Rattle.std.specs.Prelude.{◌≡◌, ◌++◌, ◌<◌, codes, pos, IfOk, OnOk, string_bytes};
 ghost use Rattle.zlist.specs.Listed.{place_of};
-ghost use Rattle.zinfo.specs.Text.{cause_code, checksum_text, code_text, fault_code, four_digits, line_of, number_line, place_text, text_of_info, unlisted_text};
+ghost use Rattle.zinfo.specs.Text.{cause_code, checksum_text, code_text, entries_text, entry_text, fault_code, four_digits, line_of, number_line, or_none, place_text, text_of_info, unlisted_text, unplayed_line, with_entry};
 
-use crate::facts::{Checksum, Code, Info};
+use crate::facts::{Checksum, Code, Info, Unplayed};
 use crate::shown::{push_digit, push_five_digits, shown_text};
 use itoa::Buffer;
 use std::alloc::{AllocError, Global};
-use zcode::DecodeError;
+use zcode::{DecodeError, Excluded};
 use zlist::ListError;
 
 /// One fact a line. Fails only for want of memory.
@@ -24,6 +24,7 @@ pub fn text_of_info(alloc: Global, info: &Info) -> Result<String, AllocError>
     push_number("objects", u64::from(info.objects), &mut text)?;
     push_number("words", u64::from(info.words), &mut text)?;
     push_code(info.code, &mut text)?;
+    push_unplayed(alloc, info.unplayed, &mut text)?;
     Ok(text)
 }
 
@@ -89,6 +90,54 @@ fn push_code(code: Code, text: &mut String) -> Result<(), AllocError>
         }
     }
     Ok(())
+}
+
+/// How often the opcodes are met that aren't played.
+fn push_unplayed(alloc: Global, counts: Unplayed, text: &mut String) -> Result<(), AllocError>
+    ensures { OnOk result (string_bytes text.new ≡ string_bytes text.old ++ unplayed_line counts) }
+{
+    let entries = entries_of(alloc, counts)?;
+    push_entries(entries.as_str(), text)?;
+    Ok(())
+}
+
+/// Those entries, or that there are none.
+fn push_entries(entries: &str, text: &mut String) -> Result<(), AllocError>
+    ensures { OnOk result (string_bytes text.new ≡ string_bytes text.old ++ line_of (codes "opcodes not played") (or_none entries.now)) }
+{
+    if entries.is_empty() {
+        push_line("opcodes not played", "none", text)
+    } else {
+        push_line("opcodes not played", entries, text)
+    }
+}
+
+/// How often those are met that are.
+fn entries_of(alloc: Global, counts: Unplayed) -> Result<String, AllocError>
+    ensures { IfOk result (λ entries. string_bytes entries ≡ entries_text counts) }
+{
+    let mut entries = String::new(alloc);
+    push_entry(Excluded::SplitWindow, counts.split_window, &mut entries)?;
+    push_entry(Excluded::SetWindow, counts.set_window, &mut entries)?;
+    push_entry(Excluded::OutputStream, counts.output_stream, &mut entries)?;
+    push_entry(Excluded::InputStream, counts.input_stream, &mut entries)?;
+    push_entry(Excluded::SoundEffect, counts.sound_effect, &mut entries)?;
+    Ok(entries)
+}
+
+/// How often one of them is met, if it is, behind others.
+fn push_entry(opcode: Excluded, count: usize, entries: &mut String) -> Result<(), AllocError>
+    ensures { OnOk result (string_bytes entries.new ≡ with_entry (string_bytes entries.old) (entry_text opcode count)) }
+{
+    if count == 0 {
+        return Ok(());
+    }
+    if !entries.is_empty() {
+        entries.push_str(", ")?;
+    }
+    entries.push_str(opcode.name())?;
+    entries.push_str(" ")?;
+    entries.push_str(Buffer::new().format(count as u64))
 }
 
 /// What is at fault with a listing.

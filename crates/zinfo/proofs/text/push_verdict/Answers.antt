@@ -2,7 +2,6 @@ use Rattle.std.proofs.Common.{◌≡◌, ◌++◌, ◌∙◌, ap, append_assoc, 
 use Rattle.std.specs.Prelude.{string_bytes}
 use Rattle.zinfo.specs.Text.{checksum_text, four_digits}
 use Rattle.zinfo.specs.declared.facts.Checksum.{Checksum}
-use Rattle.zinfo.specs.declared.facts.Checksum.TheVariants.{Right, Unstated, Wrong}
 use Rattle.zinfo.proofs.text.push_verdict.Goals as goal
 
 pub returns-in_ok-push_str-in-Right : goal.returns-in_ok-push_str-in-Right
