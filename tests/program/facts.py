@@ -19,8 +19,8 @@ SUM = sum(SAMPLE[64:]) % 65536
 HEAD = "release: 1\nserial: 260101\n"
 
 
-def facts(length=0x32A, checksum=f"{SUM:04x}, right", objects=0, words=0, code="routines: 0\ninstructions: 2\n", beside="none"):
-    lines = f"{HEAD}length: {length}\nchecksum: {checksum}\nobjects: {objects}\nwords: {words}\n{code}certificate: {beside}\n"
+def facts(length=0x32A, checksum=f"{SUM:04x}, right", objects=0, words=0, code="routines: 0\ninstructions: 2\n", unplayed="none", beside="none"):
+    lines = f"{HEAD}length: {length}\nchecksum: {checksum}\nobjects: {objects}\nwords: {words}\n{code}opcodes not played: {unplayed}\ncertificate: {beside}\n"
     return Answer(0, lines.encode(), b"")
 
 
@@ -32,6 +32,16 @@ def refused(code):
 CALLING = story(b"\xe0\x3f\x01\x96\x10" + QUIT + b"\0\0" + b"\x01\0\0" + b"\xb0")
 # `set_window` isn't played.
 WINDOW = story(NOP + b"\xeb\x7f\0" + QUIT)
+# Nor are four others. At 324 `jz sp ?333`, at 327 `set_window 1`, at 32a `split_window 5`, at 32d `call 340 -> sp`, at 332 `quit`; at 333
+# `output_stream 2` of two bytes, at 337 `sound_effect 1 2 3`, at 33c `set_window sp`, at 33f `quit`; at 340 a routine with one local, at 343
+# `input_stream 1` and at 346 `input_stream 0`, at 349 `rtrue`; and at 34a `set_window 0`, to which nothing leads.
+SEVERAL = story(
+    b"\xa0\0\xce" + b"\xeb\x7f\1" + b"\xea\x7f\5" + b"\xe0\x3f\x01\xa0\0" + QUIT + b"\xf3\x3f\0\2" + b"\xf5\x57\1\2\3" + b"\xeb\xbf\0" + QUIT + b"\1\x12\x34"
+    + b"\xf4\x7f\1" + b"\xf4\x7f\0" + b"\xb0" + b"\xeb\x7f\0" + QUIT
+)
+SEVERAL_MET = {"unplayed_split_window": 1, "unplayed_set_window": 2, "unplayed_output_stream": 1, "unplayed_input_stream": 2, "unplayed_sound_effect": 1}
+# The last byte is the type byte of a `set_window` whose operand isn't there.
+CUT = story(NOP + NOP + b"\xeb\x7f")
 OBJECTS = with_objects()
 
 RUNS = [
@@ -48,7 +58,15 @@ RUNS = [
     ("with a routine", {"story": CALLING}, facts(len(CALLING), f"{sum(CALLING[64:]) % 65536:04x}, right", code="routines: 1\ninstructions: 3\n")),
     ("with a wrong checksum", {"story": changed(SAMPLE, 0x1C, 0x12, 0x34)}, facts(checksum=f"1234, wrong, the sum is {SUM:04x}")),
     ("with none", {"story": changed(SAMPLE, 0x1C, 0, 0)}, facts(checksum=f"none, the sum is {SUM:04x}")),
-    ("with an opcode that isn't played", {"story": WINDOW}, facts(len(WINDOW), f"{sum(WINDOW[64:]) % 65536:04x}, right", code="unlisted: U1 at 00325, J3 set_window\n")),
+    ("with an opcode that isn't played", {"story": WINDOW}, facts(len(WINDOW), f"{sum(WINDOW[64:]) % 65536:04x}, right", code="unlisted: U1 at 00325, J3 set_window\n", unplayed="set_window 1")),
+    (
+        "with several of them", {"story": SEVERAL},
+        facts(
+            len(SEVERAL), f"{sum(SEVERAL[64:]) % 65536:04x}, right", code="unlisted: U1 at 00327, J3 set_window\n",
+            unplayed="split_window 1, set_window 2, output_stream 1, input_stream 2, sound_effect 1",
+        ),
+    ),
+    ("with one that isn't whole", {"story": CUT}, facts(len(CUT), f"{sum(CUT[64:]) % 65536:04x}, right", code="unlisted: U1 at 00326, J3 set_window\n", unplayed="set_window 1")),
     ("a serial number of other bytes", {"story": changed(SAMPLE, 0x12, 0, 0x5C)}, Answer(0, facts().output.replace(b"260101", b"\\x00\\x5c0101"), b"")),
     ("no story", {"story": bytes(64)}, refused("L3")),
     ("no story, beside a certificate", {"story": b"", "story.cert": ITS_CERTIFICATE}, refused("L1")),
@@ -59,7 +77,8 @@ RUNS = [
 
 ALONE = {
     "file": "story", "release": 1, "serial": "260101", "length": 0x32A, "checksum": SUM, "sum": SUM, "checksum_right": True, "objects": 0, "words": 0,
-    "routines": 0, "instructions": 2, "code": None, "address": None, "cause": None, "opcode": None, "certificate": None, "certificate_code": None, "certificate_readable": None,
+    "routines": 0, "instructions": 2, "code": None, "address": None, "cause": None, "opcode": None,
+    **dict.fromkeys(SEVERAL_MET, 0), "certificate": None, "certificate_code": None, "certificate_readable": None,
     "certificate_version": None, "certificate_frames": None, "certificate_routines": None, "certificate_instructions": None, "certificate_marks": None, "certificate_facts": None,
 }
 OWN = {"certificate": "story.cert", "certificate_readable": True, "certificate_version": 1, "certificate_routines": 0, "certificate_instructions": 2, "certificate_marks": 0, "certificate_facts": 0}
@@ -79,7 +98,14 @@ OBJECT_RUNS = [
         "with an opcode that isn't played", {"story": WINDOW},
         {
             "length": len(WINDOW), "checksum": sum(WINDOW[64:]) % 65536, "sum": sum(WINDOW[64:]) % 65536, "routines": None, "instructions": None,
-            "code": "U1", "address": "00325", "cause": "J3", "opcode": "set_window",
+            "code": "U1", "address": "00325", "cause": "J3", "opcode": "set_window", "unplayed_set_window": 1,
+        },
+    ),
+    (
+        "with several of them", {"story": SEVERAL},
+        {
+            "length": len(SEVERAL), "checksum": sum(SEVERAL[64:]) % 65536, "sum": sum(SEVERAL[64:]) % 65536, "routines": None, "instructions": None,
+            "code": "U1", "address": "00327", "cause": "J3", "opcode": "set_window", **SEVERAL_MET,
         },
     ),
 ]

@@ -269,10 +269,26 @@ def told_at_length(program, count):
     made = story(NOP * (LONGEST - CODE - 1) + QUIT)
     name = "s" * 250
     answer = program.run(["info", name], {name: made, f"{name}.cert": certificate(made, range(CODE, LONGEST), values=WIDE)})
-    told = f"instructions: {LONGEST - CODE}\ncertificate: version 1, routines 0, instructions {LONGEST - CODE}, marked 0, facts 0\n"
+    told = f"instructions: {LONGEST - CODE}\nopcodes not played: none\ncertificate: version 1, routines 0, instructions {LONGEST - CODE}, marked 0, facts 0\n"
     count.see(answer.status == 0 and answer.output.endswith(told.encode()), f"the longest story, told of: {answer}")
     answer = program.run(["info", "--json", name], {name: made})
     count.see(answer.status == 0 and f'"instructions":{LONGEST - CODE},'.encode() in answer.output, f"the longest story, told of as an object: {answer}")
+
+
+def unplayed_at_length(program, count):
+    """The longest story of an opcode that isn't played, of branches of which each leaves a place behind, and of long texts that overlap."""
+    room = LONGEST - CODE
+    windows = b"\xeb\x7f\0" * ((room - 1) // 3)
+    # `jz sp ?3` passes over the `output_stream 1` behind it, which goes on to the next one.
+    branches = b"\xa0\0\xc5\xf3\x7f\1" * ((room - 1) // 6)
+    for name, made, met in [
+        ("set_window", story((windows + QUIT).ljust(room, QUIT)), f"set_window {(room - 1) // 3}"),
+        ("branches", story((branches + QUIT).ljust(room, QUIT)), f"output_stream {(room - 1) // 6}"),
+        ("long texts", branches_to_prints(-1, 61000)[0], "none"),
+    ]:
+        answer = program.run(["info", "story"], {"story": made})
+        told = f"\nopcodes not played: {met}\n"
+        count.see(answer.status == 0 and told.encode() in answer.output, f"the longest story of {name}, told of: {answer}")
 
 
 def many_routines(program, count):
@@ -543,6 +559,7 @@ GROWTH = [
     ("zplayer new", "nothing, as that", None),
     ("zscreen render", "bytes and status lines of a turn", None),
     ("zinfo info", "what `list_story` grows by, which it calls", told_at_length),
+    ("zinfo unplayed", "bytes of a story, and places that wait", unplayed_at_length),
     ("zinfo text_of_info", "numbers of a story", told_at_length),
     ("zinfo text_of_beside", "numbers of a certificate", told_at_length),
     ("zinfo object_of_info", "letters of a name", told_at_length),

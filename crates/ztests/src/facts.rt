@@ -34,7 +34,7 @@ fn facts_are_told(rt: HostRuntime) -> Result<(), Fail> {
     let text = text_of_info(alloc, &facts)?;
     assert!(rt;
         text.as_str()
-            == "release: 1\nserial: 260101\nlength: 808\nchecksum: 396e, right\nobjects: 0\nwords: 0\nroutines: 0\ninstructions: 2\n"
+            == "release: 1\nserial: 260101\nlength: 808\nchecksum: 396e, right\nobjects: 0\nwords: 0\nroutines: 0\ninstructions: 2\nopcodes not played: none\n"
     );
     Ok(())
 }
