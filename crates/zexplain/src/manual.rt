@@ -129,6 +129,9 @@ The most steps that are made [default: 1000000000]
 \\fB\\-\\-status\\fR
 Writes status lines too
 .TP
+\\fB\\-\\-framed\\-status\\fR
+Writes status lines too, each between bytes that no text has: 2, 31, 3
+.TP
 \\fB\\-\\-save\\fR \\fIFILE\\fR
 The file that saves are kept in
 .TP
