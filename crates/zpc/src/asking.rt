@@ -96,8 +96,8 @@ fn put_behind(arguments: &mut Vec<String>, argument: String) -> Result<(), Alloc
     ensures ok { OnOk result (map string_bytes arguments.new.items ≡ behind_first (string_bytes argument) (map string_bytes arguments.old.items)) }
     ensures err { OnErr result (map string_bytes arguments.new.items ≡ map string_bytes arguments.old.items) }
 {
-    if arguments.is_empty() {
-        return Ok(());
+    if !arguments.is_empty() {
+        arguments.insert(1, argument)?;
     }
-    arguments.insert(1, argument)
+    Ok(())
 }
