@@ -26,7 +26,6 @@ TEXT = re.sub(rb"(?<=\n>)\[[^\n]*\]\n", b"", read(HERE, "bell.out"))
 TURNS = re.split(rb"(?<=\n>)", TEXT)
 STATUS = [re.fullmatch(rb"\[(.*?) \| (.*)\]\n", it) for it in re.findall(rb"(?<=\n>)\[[^\n]*\]\n", read(HERE, "bell.out"))]
 OPENED, CLOSED = b"\x1b[H\x1b[2J\x1b[2r\x1b[2;1H", b"\x1b[r\x1b[999;1H\r\n"
-STOP = b"[more]\r\n\x1b[A\r\x1b[K"  # the key ends a line, which is taken back with the word
 
 
 def wrapped(turn, width):
@@ -140,14 +139,16 @@ def see_terminal(program, count):
         count.see(os.listdir(folder) == ["g.z3"], f"a save with no terminal: {os.listdir(folder)}")
 
 
-def with_stops(shown, rows):
-    """The text of a turn, which stops before what comes behind so many rows but one; and how often that is."""
+def with_stops(shown, rows, status):
+    """The text of a turn, which stops before what comes behind so many rows but one; and how often that is. The key ends a line, which is taken
+    back with the word."""
+    stop = b"[more]" + drawn(status, 40) + b"\r\n\x1b[A\r\x1b[K"
     lines = shown.split(b"\n")
     pages = [lines[at : at + rows - 1] for at in range(0, len(lines), rows - 1)]
     if pages[-1] == [b""] and len(pages) > 1:
         pages[-2:] = [[*pages[-2], b""]]
     shown = [b"\r\n".join(page) for page in pages]
-    return (b"\r\n" + STOP).join(shown), len(pages) - 1
+    return (b"\r\n" + stop).join(shown), len(pages) - 1
 
 
 def see_stops(program, count):
@@ -155,7 +156,7 @@ def see_stops(program, count):
     turn = wrapped(TURNS[0], 40)
     with room({"g.z3": GAME}) as folder:
         for rows in (3, 4, 9, turn.count(b"\n") + 1, turn.count(b"\n") + 2):
-            wanted, stops = with_stops(turn, rows)
+            wanted, stops = with_stops(turn, rows, STATUS[0])
             count.see((stops > 0) == (rows <= turn.count(b"\n") + 1), f"{rows} rows stop {stops} times")
             said = {"TERM": "xterm", "LINES": str(rows + 1)}
             shown = on_terminal(program, folder, ["play", "g.z3"], "40", [b"\n"] * stops, **said)
@@ -180,7 +181,7 @@ def see_status_lines(program, count):
         shown = on_terminal(program, folder, ["play", "--transcript", "kept", "g.z3"], "60", lines, **said)
         turns = [wrapped(turn, 60).replace(b"\n", b"\r\n") + drawn(status, 60) for turn, status in zip(TURNS, STATUS)][:4]
         typed = [line.replace(b"\n", b"\r\n") for line in lines]
-        count.see(shown == OPENED + with_lines(turns, typed) + CLOSED, f"a play below its status line: {shown!r}")
+        count.see(shown == OPENED + with_lines(turns, typed) + drawn(STATUS[3], 60) + CLOSED, f"a play below its status line: {shown!r}")
         count.see(read(folder, "kept") == with_lines(TURNS[:4], lines), "what is kept of a play below its status line")
         shown = on_terminal(program, folder, ["play", "--status", "g.z3"], None, [], **said)
         line = b"[%s | %s]\r\n" % (STATUS[0][1], STATUS[0][2])
