@@ -2,6 +2,8 @@ pub mod Copies
 pub mod Cursors
 pub mod Lines
 pub mod Owed
+pub mod PagedSinks
+pub mod Pages
 pub mod ReadAhead
 pub mod Records
 pub mod Screens

@@ -9,9 +9,14 @@ mod cutting;
 mod digits;
 mod followed;
 mod giving;
+mod keys;
 mod laws;
 mod lined;
 mod members;
+mod page;
+mod page_laws;
+mod paged;
+mod pages;
 mod pending;
 mod record;
 mod recorded;
@@ -37,6 +42,9 @@ pub use laws::{
     text_is_wrapped, turns_are_wrapped, wrapping_is_determined,
 };
 pub use lined::Lined;
+pub use page_laws::{shown_pieces_join, stops_are_between_pages};
+pub use paged::Paged;
+pub use pages::Pages;
 pub use recorded::Recorded;
 pub use screen::Screen;
 pub use shown::{Shown, Typed};
