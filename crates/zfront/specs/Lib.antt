@@ -1,5 +1,9 @@
 pub mod Copies
 pub mod Cursors
+pub mod FramedSinks
+pub mod Frames
+pub mod HeadedSinks
+pub mod Headings
 pub mod Lines
 pub mod Owed
 pub mod PagedSinks
