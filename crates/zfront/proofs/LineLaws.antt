@@ -1,10 +1,13 @@
 -- Laws of frames and of the line at the top.
 use Rattle.std.proofs.Common.{◌≡◌, ℕ, zero, suc, ◌+◌, ◌-◌, ◌≤◌, Bool, true, false, List, [], ◌∷◌, ◌++◌, length, length-append, refl, sym, ap, ◌∙◌, append_assoc, arith}
-use Rattle.std.specs.Prelude.{All, if◌then◌else◌, map, nat_lt, replicate}
+use Rattle.std.specs.Prelude.{◌==◌, ◌||◌, All, if◌then◌else◌, map, nat_lt, replicate}
 use Rattle.std.proofs.lemmas.Bool.{ltb-false}
 use Rattle.std.proofs.lemmas.List.{length-replicate, length-take}
 use Rattle.std.proofs.lemmas.List.Elements.{All-append, All-cons, All-nil, All-take}
-use Rattle.zfront.specs.Frames.{Frame, behind_byte, byte_outside, frame_behind, outside}
+use Rattle.std.specs.List.{list_any}
+use Rattle.zfront.specs.declared.place.Place.{Place}
+use Rattle.zfront.specs.declared.place.Place.TheVariants.{Outside, Name, Right}
+use Rattle.zfront.specs.Frames.{Frame, behind_byte, byte_outside, frame_behind, is_outside, outside, place_behind}
 use Rattle.zfront.specs.Headings.{both_shown, heading_line, name_shown, printable, right_shown}
 
 -- ---- pieces
@@ -18,6 +21,58 @@ outside_join frame (byte ∷ rest) text =
 pub frame_join : (frame : Frame) (piece text : List ℕ) → frame_behind frame (piece ++ text) ≡ frame_behind (frame_behind frame piece) text
 frame_join frame [] text = refl
 frame_join frame (byte ∷ rest) text = frame_join (behind_byte frame byte) rest text
+
+-- ---- a text and a frame
+
+two_tests : (a b : Bool) → (a || b) ≡ false → (a ≡ false) × (b ≡ false)
+two_tests true b e = absurd cc
+two_tests false b e = (refl, e)
+
+pub text_outside : (frame : Frame) (text : List ℕ) → is_outside frame.place ≡ true → list_any (λ byte. byte == 2) text ≡ false → outside frame text ≡ text
+text_outside frame [] out none = refl
+text_outside frame (byte ∷ rest) out none =
+    let tests : ((byte == 2) ≡ false) × (list_any (λ byte. byte == 2) rest ≡ false) = two_tests (byte == 2) (list_any (λ byte. byte == 2) rest) none in
+    let here : (byte_outside frame.place byte ≡ byte ∷ []) × (is_outside (place_behind frame.place byte) ≡ true) = one frame.place out tests.0 in
+    ap (λ (b : List ℕ). b ++ outside (behind_byte frame byte) rest) here.0 ∙ ap (λ (b : List ℕ). byte ∷ b) (text_outside (behind_byte frame byte) rest here.1 tests.1)
+  where
+    one : (place : Place) → is_outside place ≡ true → (byte == 2) ≡ false → (byte_outside place byte ≡ byte ∷ []) × (is_outside (place_behind place byte) ≡ true)
+    one Outside out e = (rw e refl, rw e refl)
+    one Name out e = absurd cc
+    one Right out e = absurd cc
+
+-- up to its end, which is byte 3
+inside_end : (frame : Frame) (inner : List ℕ) → is_outside frame.place ≡ false → list_any (λ byte. byte == 3) inner ≡ false → (outside frame (inner ++ 3 ∷ []) ≡ []) × (is_outside (frame_behind frame (inner ++ 3 ∷ [])).place ≡ true)
+inside_end frame [] inside none = last frame.place inside
+  where
+    last : (place : Place) → is_outside place ≡ false → (byte_outside place 3 ++ [] ≡ []) × (is_outside (place_behind place 3) ≡ true)
+    last Outside inside = absurd cc
+    last Name inside = (refl, refl)
+    last Right inside = (refl, refl)
+inside_end frame (byte ∷ rest) inside none =
+    let tests : ((byte == 3) ≡ false) × (list_any (λ byte. byte == 3) rest ≡ false) = two_tests (byte == 3) (list_any (λ byte. byte == 3) rest) none in
+    let here : (byte_outside frame.place byte ≡ []) × (is_outside (place_behind frame.place byte) ≡ false) = one frame.place inside tests.0 in
+    let more : (outside (behind_byte frame byte) (rest ++ 3 ∷ []) ≡ []) × (is_outside (frame_behind (behind_byte frame byte) (rest ++ 3 ∷ [])).place ≡ true) = inside_end (behind_byte frame byte) rest here.1 tests.1 in
+    (ap (λ (b : List ℕ). b ++ outside (behind_byte frame byte) (rest ++ 3 ∷ [])) here.0 ∙ more.0, more.1)
+  where
+    half : (t : Bool) → is_outside (if t then Right else Name) ≡ false
+    half true = refl
+    half false = refl
+
+    one : (place : Place) → is_outside place ≡ false → (byte == 3) ≡ false → (byte_outside place byte ≡ []) × (is_outside (place_behind place byte) ≡ false)
+    one Outside inside e = absurd cc
+    one Name inside e = (refl, rw e (half (byte == 31)))
+    one Right inside e = (refl, rw e refl)
+
+pub frame_inside : (frame : Frame) (inner : List ℕ) → is_outside frame.place ≡ true → list_any (λ byte. byte == 3) inner ≡ false → (outside frame (2 ∷ (inner ++ 3 ∷ [])) ≡ []) × (is_outside (frame_behind frame (2 ∷ (inner ++ 3 ∷ []))).place ≡ true)
+frame_inside frame inner out none =
+    let here : (byte_outside frame.place 2 ≡ []) × (is_outside (place_behind frame.place 2) ≡ false) = one frame.place out in
+    let more : (outside (behind_byte frame 2) (inner ++ 3 ∷ []) ≡ []) × (is_outside (frame_behind (behind_byte frame 2) (inner ++ 3 ∷ [])).place ≡ true) = inside_end (behind_byte frame 2) inner here.1 none in
+    (ap (λ (b : List ℕ). b ++ outside (behind_byte frame 2) (inner ++ 3 ∷ [])) here.0 ∙ more.0, more.1)
+  where
+    one : (place : Place) → is_outside place ≡ true → (byte_outside place 2 ≡ []) × (is_outside (place_behind place 2) ≡ false)
+    one Outside out = (refl, refl)
+    one Name out = absurd cc
+    one Right out = absurd cc
 
 -- ---- the line
 

@@ -49,7 +49,7 @@ pub use followed::Followed;
 pub use frames::Frames;
 pub use headed::Headed;
 pub use heading::Heading;
-pub use heading_laws::{framed_pieces_join, lines_are_characters};
+pub use heading_laws::{framed_pieces_join, frames_are_taken_out, lines_are_characters};
 pub use laws::{
     failed_calls_lose_nothing, failed_flushes_lose_nothing, failed_writes_lose_nothing,
     flushed_text_is_wrapped, no_width_wraps_nothing, pieces_join, taken_pieces_join,
