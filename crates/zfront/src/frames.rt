@@ -1,6 +1,6 @@
 //! A sink that takes frames out of a text.
 
-ghost use Rattle.std.specs.Prelude.{◌≡◌, ◌<◌, ◌≤◌, false, IfOk, None, OnErr, length, take};
+ghost use Rattle.std.specs.Prelude.{◌≡◌, ◌<◌, ◌≤◌, false, IfOk, None, OnErr, length, take, OnOk};
 ghost use Rattle.std.specs.Io.KnownBytes.{Keeps, WriteAppends};
 ghost use Rattle.zfault.specs.Devices.{CountsFailure, HandsOn, LetsWait};
 ghost use Rattle.zfront.specs.FramedSinks.{frame_of, frames_below, frames_name, frames_wait};
@@ -63,6 +63,7 @@ impl<W: Sink> Sink for Frames<'_, '_, W> {
     fn flush(&mut self) -> Result<(), Failed>
         ensures bytes { Keeps None None }
         ensures through { HandsOn (frames_wait self.old) (frames_wait self.new) result }
+        ensures handed { OnOk result (W.waits (frames_below self.new) ≡ false) }
         ensures counts { CountsFailure (W.failures (frames_below self.old)) (W.failures (frames_below self.new)) result }
         ensures reference { frames_name self.new ≡ frames_name self.old }
         ensures kept { LeavesAll (W.contents (frames_below self.old)) (W.contents (frames_below self.new)) (frame_of self.old) (frame_of self.new) }

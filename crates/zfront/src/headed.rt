@@ -1,6 +1,6 @@
 //! Where a text is shown that may have a line at the top.
 
-ghost use Rattle.std.specs.Prelude.{◌≡◌, ◌<◌, ◌≤◌, IfOk, OnErr, OnOk, length, take};
+ghost use Rattle.std.specs.Prelude.{◌≡◌, ◌<◌, ◌≤◌, IfOk, OnErr, OnOk, length, take, false};
 ghost use Rattle.std.specs.Io.KnownBytes.{Keeps, WriteAppends};
 ghost use Rattle.zfault.specs.Devices.{CountsFailure, HandsOn, LetsWait};
 ghost use Rattle.zfront.specs.HeadedSinks.{ClosesHere, ClosesShortHere, FlushesHere, FlushesShortHere, TopsHere, TopsNoneHere, begins_with, below_name, below_of, known_bytes, top_here, waits_of};
@@ -36,6 +36,7 @@ impl<W: Sink> Headed<'_, '_, W> {
     /// Gives the whole screen back, if it was opened, and flushes the sink below.
     pub fn close(&mut self) -> Result<(), Failed>
         ensures through { HandsOn (waits_of W.waits self.old) (waits_of W.waits self.new) result }
+        ensures handed { OnOk result (W.waits (below_of self.new) ≡ false) }
         ensures counts { CountsFailure (W.failures (below_of self.old)) (W.failures (below_of self.new)) result }
         ensures reference { below_name self.new ≡ below_name self.old }
         ensures ok { OnOk result (ClosesHere (W.contents (below_of self.old)) (W.contents (below_of self.new)) (top_here self.old) (top_here self.new)) }
@@ -76,6 +77,7 @@ impl<W: Sink> Sink for Headed<'_, '_, W> {
     fn flush(&mut self) -> Result<(), Failed>
         ensures bytes { Keeps (known_bytes (top_here self.old) (W.contents (below_of self.old))) (known_bytes (top_here self.new) (W.contents (below_of self.new))) }
         ensures through { HandsOn (waits_of W.waits self.old) (waits_of W.waits self.new) result }
+        ensures handed { OnOk result (W.waits (below_of self.new) ≡ false) }
         ensures counts { CountsFailure (W.failures (below_of self.old)) (W.failures (below_of self.new)) result }
         ensures reference { below_name self.new ≡ below_name self.old }
         ensures ok { OnOk result (FlushesHere (W.contents (below_of self.old)) (W.contents (below_of self.new)) (top_here self.old) (top_here self.new)) }

@@ -1,7 +1,7 @@
 //! Where a text is shown that may stop behind each page.
 
 ghost use Rattle.std.specs.Option.{ghost_name_of, option_copied_mut};
-ghost use Rattle.std.specs.Prelude.{◌≡◌, ◌≢◌, ◌<◌, ◌≤◌, IfOk, None, OnErr, length, take};
+ghost use Rattle.std.specs.Prelude.{◌≡◌, ◌≢◌, ◌<◌, ◌≤◌, IfOk, None, OnErr, length, take, false, OnOk};
 ghost use Rattle.std.specs.Io.KnownBytes.{Keeps, WriteAppends};
 ghost use Rattle.zfault.specs.Devices.{CountsFailure, HandsOn, LetsWait};
 ghost use Rattle.zfront.specs.PagedSinks.{BeginsHere, ShowsHere, ShowsNoneHere, begins_with, below_name, below_of, keys_here, known_bytes, page_here, waits_of};
@@ -63,6 +63,7 @@ impl<W: Sink, S: Source> Sink for Paged<'_, '_, W, S> {
     fn flush(&mut self) -> Result<(), Failed>
         ensures bytes { Keeps (known_bytes (page_here self.old) (W.contents (below_of self.old))) (known_bytes (page_here self.new) (W.contents (below_of self.new))) }
         ensures through { HandsOn (waits_of W.waits self.old) (waits_of W.waits self.new) result }
+        ensures handed { OnOk result (W.waits (below_of self.new) ≡ false) }
         ensures counts { CountsFailure (W.failures (below_of self.old)) (W.failures (below_of self.new)) result }
         ensures reference { below_name self.new ≡ below_name self.old }
         ensures keys { keys_here self.new ≡ keys_here self.old }

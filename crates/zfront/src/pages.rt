@@ -74,6 +74,7 @@ impl<W: Sink, S: Source> Sink for Pages<'_, '_, W, S> {
     fn flush(&mut self) -> Result<(), Failed>
         ensures bytes { Keeps None None }
         ensures through { HandsOn (pages_wait self.old) (pages_wait self.new) result }
+        ensures handed { OnOk result (W.waits (pages_below self.new) ≡ false) }
         ensures counts { CountsFailure (W.failures (pages_below self.old)) (W.failures (pages_below self.new)) result }
         ensures reference { pages_name self.new ≡ pages_name self.old }
         ensures keys { keys_name self.new ≡ keys_name self.old }

@@ -75,6 +75,7 @@ impl<W: Sink> Sink for TopLine<'_, '_, W> {
     fn flush(&mut self) -> Result<(), Failed>
         ensures bytes { Keeps None None }
         ensures through { HandsOn (top_waits self.old) (top_waits self.new) result }
+        ensures handed { OnOk result (W.waits (top_below self.new) ≡ false) }
         ensures counts { CountsFailure (W.failures (top_below self.old)) (W.failures (top_below self.new)) result }
         ensures reference { top_name self.new ≡ top_name self.old }
         ensures ok { OnOk result (FlushesTop (W.contents (top_below self.old)) (W.contents (top_below self.new)) (top_of self.old) (top_of self.new)) }
@@ -92,6 +93,7 @@ impl<W: Sink> TopLine<'_, '_, W> {
     /// Gives the whole screen back, if it was opened, and flushes the sink below. What is written behind that opens it anew.
     pub fn close(&mut self) -> Result<(), Failed>
         ensures through { HandsOn (top_waits self.old) (top_waits self.new) result }
+        ensures handed { OnOk result (W.waits (top_below self.new) ≡ false) }
         ensures counts { CountsFailure (W.failures (top_below self.old)) (W.failures (top_below self.new)) result }
         ensures reference { top_name self.new ≡ top_name self.old }
         ensures ok { OnOk result (Closes (W.contents (top_below self.old)) (W.contents (top_below self.new)) (top_of self.old) (top_of self.new)) }

@@ -1,6 +1,6 @@
 //! Where a text goes that may have frames.
 
-ghost use Rattle.std.specs.Prelude.{◌≡◌, ◌<◌, ◌≤◌, IfOk, OnErr, length, option_copied, take};
+ghost use Rattle.std.specs.Prelude.{◌≡◌, ◌<◌, ◌≤◌, IfOk, OnErr, length, option_copied, take, false, OnOk};
 ghost use Rattle.std.specs.Io.KnownBytes.{Keeps, WriteAppends};
 ghost use Rattle.std.specs.Option.{option_map};
 ghost use Rattle.zfault.specs.Devices.{CountsFailure, HandsOn, LetsWait};
@@ -61,6 +61,7 @@ impl<W: Sink> Sink for Unframed<'_, '_, W> {
     fn flush(&mut self) -> Result<(), Failed>
         ensures bytes { Keeps (known_bytes (frame_here self.old) (W.contents (below_of self.old))) (known_bytes (frame_here self.new) (W.contents (below_of self.new))) }
         ensures through { HandsOn (waits_of W.waits self.old) (waits_of W.waits self.new) result }
+        ensures handed { OnOk result (W.waits (below_of self.new) ≡ false) }
         ensures counts { CountsFailure (W.failures (below_of self.old)) (W.failures (below_of self.new)) result }
         ensures reference { below_name self.new ≡ below_name self.old }
         ensures kept { LeavesAllHere (W.contents (below_of self.old)) (W.contents (below_of self.new)) (frame_here self.old) (frame_here self.new) }
