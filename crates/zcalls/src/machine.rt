@@ -7,6 +7,7 @@ use zplay::Session;
 use zplayer::{End, Options, PlayError, World as Devices, play_checked, play_story};
 use zquetzal::SaveError;
 use zref::CheckedMachine;
+use zscreen::StatusLines;
 use zstate::Stop;
 
 /// A machine that plays.

@@ -64,6 +64,7 @@ use Rattle.zperform.specs.declared.outcome.Problem.{Problem}
 use Rattle.zperform.specs.Informing.{name_of_certificate}
 use Rattle.zperform.specs.Playing.{ComesTo, IsPlayed, IsRefused}
 use Rattle.zperform.proofs.AcceptLemmas.{story_bytes}
+use Rattle.zscreen.specs.declared.status_lines.StatusLines.{StatusLines}
 use Rattle.zscreen.specs.declared.status_lines.StatusLines.TheVariants.{Bracketed, Hidden}
 
 -- ---- devices
@@ -225,7 +226,7 @@ module _ (search : Search) (story certificate : List ℕ) (held later : Held) (i
   comes_of_each stories force json = (λ comes. comes, λ comes. comes, λ comes. comes, λ comes. comes)
 
   comes_of_plays :
-      (seed budget : ℕ) (status : Bool) (save : Option (List ℕ)) (tell force : Bool)
+      (seed budget : ℕ) (status : StatusLines) (save : Option (List ℕ)) (tell force : Bool)
       → (Comes (Play story None seed budget status save tell force false) held later input aside [] before now outcome → PlaysBeside held later story save aside (record { budget = budget; status = status }) (given input seed (store_of save)) [] before now outcome)
       × (Comes (Play story (Some certificate) seed budget status save tell force false) held later input aside [] before now outcome → PlayComesTo (held.known story) (held.known certificate) (record { budget = budget; status = status }) (given input seed (store_of save)) [] before now outcome)
   comes_of_plays seed budget status save tell force = (λ comes. comes, λ comes. comes)

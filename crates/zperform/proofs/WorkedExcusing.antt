@@ -20,6 +20,7 @@ use Rattle.zperform.specs.Wording.{short_text}
 use Rattle.zperform.specs.declared.blame.Blame.{Blame}
 use Rattle.zperform.specs.declared.outcome.Outcome.{Outcome}
 use Rattle.zperform.specs.declared.outcome.Problem.{Problem}
+use Rattle.zscreen.specs.declared.status_lines.StatusLines.{StatusLines}
 use Rattle.zscreen.specs.declared.status_lines.StatusLines.TheVariants.{Hidden}
 
 -- an object that isn't there at 0x329, twice, and a division by 0 at 0x40c
@@ -55,7 +56,7 @@ spared = (refl, refl, refl)
 -- what it comes to and tells
 module _ (held later : Held) (story certificate : List ℕ) (input before now : Option (List ℕ)) (aside : Aside) (outcome : Outcome) (old new : Seen) (problem : Problem) (blame : Option Blame) where
   comes_of_lenient :
-      (beside : Option (List ℕ)) (seed budget : ℕ) (status : Bool) (save : Option (List ℕ)) (tell force : Bool)
+      (beside : Option (List ℕ)) (seed budget : ℕ) (status : StatusLines) (save : Option (List ℕ)) (tell force : Bool)
       → (Comes (Play story beside seed budget status save tell force true) held later input aside [] before now outcome → PlaysExcused held story beside aside (record { budget = budget; status = status }) (given input seed (store_of save)) [] before now outcome)
       × (SaysFor (Play story beside seed budget status save tell force true) aside (NotForm ∷ []) old new → SaysBoth (said_of tell save (NotForm ∷ [])) (noted_of aside) old new)
   comes_of_lenient beside seed budget status save tell force = (λ comes. comes, λ says. says)
