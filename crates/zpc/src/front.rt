@@ -3,14 +3,15 @@
 use crate::asking::Asked;
 use crate::keeping::{open, open_again};
 use crate::sources::{Undebugged, debug_info, refuse};
-use crate::terminal::{Shape, shape};
+use crate::terminal::{Shape, shape_of};
 use std::alloc::Global;
 use std::io::{self, IsTerminal, Write};
 use std::rt::Runtime;
 use zdebug::DebugInfo;
 use zfault::{FromRead, Sink, Source, ToWrite};
 use zfront::{
-    Aside, Copied, Cursor, Followed, Headed, Heading, Lined, Paged, Recorded, Screen, Shown, Sourced, Typed, Unframed,
+    Aside, Copied, Cursor, Followed, Headed, Heading, Lined, Paged, Recorded, Screen, Shown,
+    Sourced, Typed, Unframed,
 };
 use zperform::{
     Action, Blame, Cause, Disk, Failure, Files, Outcome, Problem, Speech, fail, perform, read_file,
@@ -92,7 +93,7 @@ pub fn carry_out<E: Sink>(
                 words,
                 asked,
                 info: info.as_ref(),
-                shape: shape(rt, asked),
+                shape: shape_of(rt, asked),
                 cursor: &cursor,
                 heading: &heading,
             };

@@ -37,7 +37,7 @@ const AS_IT_IS: Shape = Shape {
 };
 
 /// How the text of a play is shown, or of what isn't one.
-pub fn shape(rt: &HostRuntime, asked: Option<Asked<'_>>) -> Shape {
+pub fn shape_of(rt: &HostRuntime, asked: Option<Asked<'_>>) -> Shape {
     let Some(asked) = asked else {
         return AS_IT_IS;
     };
@@ -90,7 +90,11 @@ fn rows(rt: &HostRuntime, asked: Asked<'_>, is_headed: bool) -> Option<u16> {
         return None;
     }
     let rows = number_of(rt, "LINES", ROWS);
-    Some(if is_headed { rows.saturating_sub(1) } else { rows })
+    Some(if is_headed {
+        rows.saturating_sub(1)
+    } else {
+        rows
+    })
 }
 
 /// The number from 1 to the most that is believed that the surroundings give a name, or another one.
