@@ -228,11 +228,12 @@ fn with_pages<K: Write + Drop, F: Files, W: Sink, E: Sink>(
     shown: &mut W,
     errors: &mut E,
 ) -> u8 {
-    let mut keys = FromRead::new(context.rt.stdin());
-    let mut paged = match context.shape.rows {
-        Some(rows) => Paged::new(shown, Some(&mut keys), rows),
-        None => Paged::new(shown, None, 0),
+    let mut keys = if context.shape.rows > 0 {
+        Some(FromRead::new(context.rt.stdin()))
+    } else {
+        None
     };
+    let mut paged = Paged::new(shown, keys.as_mut(), context.shape.rows);
     with_screen(context, replayed, kept, files, &mut paged, errors)
 }
 
@@ -326,12 +327,13 @@ fn with_replay<K: Write + Drop, F: Files, R: Source, W: Sink, E: Sink>(
     } = lines;
     let mut before = FromRead::new(io::Cursor::new(replayed));
     let mut lines = Lined::new(&mut before);
-    let mut output = ToWrite::new(context.rt.stdout());
-    let mut echo = Shown::new(&mut output, context.cursor);
-    let mut replayed = match context.shape.echoes {
-        true => Recorded::new(&mut lines, Some(&mut echo)),
-        false => Recorded::new(&mut lines, None),
+    let mut echo = if context.shape.echoes {
+        Some(ToWrite::new(context.rt.stdout()))
+    } else {
+        None
     };
+    let mut shown = Recorded::new(&mut lines, echo.as_mut());
+    let mut replayed = Typed::new(&mut shown, context.cursor);
     let mut reader = Followed::new(&mut replayed, typed);
     one_by_one(
         context,

@@ -22,8 +22,8 @@ pub struct Shape {
     pub width: Option<u16>,
     /// How many columns the status line at the top has, if one is drawn.
     pub heading: Option<u16>,
-    /// How many rows text has before it stops for a key, if it does.
-    pub rows: Option<u16>,
+    /// How many rows text has before it stops for a key; 0 where it doesn't.
+    pub rows: u16,
     /// Whether lines of a file are shown as if they were typed.
     pub echoes: bool,
 }
@@ -32,7 +32,7 @@ pub struct Shape {
 const AS_IT_IS: Shape = Shape {
     width: None,
     heading: None,
-    rows: None,
+    rows: 0,
     echoes: false,
 };
 
@@ -84,17 +84,17 @@ fn columns_asked(rt: &HostRuntime, asked: Asked<'_>) -> u16 {
     }
 }
 
-/// How many rows text has before it stops, if it does: where lines are typed, below the status line.
-fn rows(rt: &HostRuntime, asked: Asked<'_>, is_headed: bool) -> Option<u16> {
+/// How many rows text has before it stops: where lines are typed, those below the status line, and else 0.
+fn rows(rt: &HostRuntime, asked: Asked<'_>, is_headed: bool) -> u16 {
     if asked.front.plain || !rt.stdin().is_terminal() || !moves_cursor(rt) {
-        return None;
+        return 0;
     }
     let rows = number_of(rt, "LINES", ROWS);
-    Some(if is_headed {
+    if is_headed {
         rows.saturating_sub(1)
     } else {
         rows
-    })
+    }
 }
 
 /// The number from 1 to the most that is believed that the surroundings give a name, or another one.
