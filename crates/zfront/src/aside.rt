@@ -1,6 +1,6 @@
 //! What is told beside a text, on lines of its own.
 
-ghost use Rattle.std.specs.Prelude.{◌≡◌, ◌<◌, ◌≤◌, [], false, IfOk, None, OnErr, length, take};
+ghost use Rattle.std.specs.Prelude.{◌≡◌, ◌<◌, ◌≤◌, [], false, IfOk, None, OnErr, length, take, OnOk};
 ghost use Rattle.std.specs.Io.KnownBytes.{Keeps, WriteAppends};
 ghost use Rattle.zfault.specs.Devices.{CountsFailure, HandsOn, LetsWait};
 ghost use Rattle.zfront.specs.Cursors.{MayBegin, aside_below, waits_aside};
@@ -63,6 +63,7 @@ impl<W: Sink> Sink for Aside<'_, '_, W> {
     fn flush(&mut self) -> Result<(), Failed>
         ensures bytes { Keeps None None }
         ensures through { HandsOn (waits_aside self.old) (waits_aside self.new) result }
+        ensures handed { OnOk result (W.waits (aside_below self.new) ≡ false) }
         ensures counts { CountsFailure (W.failures (aside_below self.old)) (W.failures (aside_below self.new)) result }
         ensures below_is { self.new.below.ghost_name ≡ self.old.below.ghost_name }
         ensures kept { Keeps (W.contents (aside_below self.old)) (W.contents (aside_below self.new)) }

@@ -1,6 +1,6 @@
 //! Where the program writes, with the source's lines or without.
 
-ghost use Rattle.std.specs.Prelude.{◌≡◌, ◌<◌, ◌≤◌, IfOk, OnErr, length, option_copied, take};
+ghost use Rattle.std.specs.Prelude.{◌≡◌, ◌<◌, ◌≤◌, IfOk, OnErr, length, option_copied, take, OnOk, false};
 ghost use Rattle.std.specs.Io.KnownBytes.{Keeps, WriteAppends};
 ghost use Rattle.std.specs.Option.{option_map};
 ghost use Rattle.zfault.specs.Devices.{CountsFailure, HandsOn, LetsWait};
@@ -66,6 +66,7 @@ impl<W: Sink> Sink for Sourced<'_, '_, W> {
     fn flush(&mut self) -> Result<(), Failed>
         ensures bytes { Keeps (known_bytes (known_to self.old) (W.contents (below_of self.old))) (known_bytes (known_to self.new) (W.contents (below_of self.new))) }
         ensures through { HandsOn (waits_of W.waits self.old) (waits_of W.waits self.new) result }
+        ensures handed { OnOk result (W.waits (below_of self.new) ≡ false) }
         ensures counts { CountsFailure (W.failures (below_of self.old)) (W.failures (below_of self.new)) result }
         ensures reference { below_name self.new ≡ below_name self.old }
         ensures known { known_to self.new ≡ known_to self.old }

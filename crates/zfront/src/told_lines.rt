@@ -1,6 +1,6 @@
 //! A sink that tells the source's lines.
 
-ghost use Rattle.std.specs.Prelude.{◌≡◌, ◌<◌, ◌≤◌, [], false, IfOk, None, OnErr, length, take};
+ghost use Rattle.std.specs.Prelude.{◌≡◌, ◌<◌, ◌≤◌, [], false, IfOk, None, OnErr, length, take, OnOk};
 ghost use Rattle.std.specs.Io.KnownBytes.{Keeps, WriteAppends};
 ghost use Rattle.zfault.specs.Devices.{CountsFailure, HandsOn, LetsWait};
 ghost use Rattle.zfront.specs.Sourced.{known_of};
@@ -78,6 +78,7 @@ impl<W: Sink> Sink for ToldLines<'_, '_, W> {
     fn flush(&mut self) -> Result<(), Failed>
         ensures bytes { Keeps None None }
         ensures through { HandsOn (lines_wait self.old) (lines_wait self.new) result }
+        ensures handed { OnOk result (W.waits (lines_below self.new) ≡ false) }
         ensures counts { CountsFailure (W.failures (lines_below self.old)) (W.failures (lines_below self.new)) result }
         ensures reference { lines_name self.new ≡ lines_name self.old }
         ensures known { lines_known self.new ≡ lines_known self.old }
