@@ -2,6 +2,7 @@
 #![tactic(auto)]
 
 mod excusing;
+mod keeping;
 mod machine;
 mod scope;
 
