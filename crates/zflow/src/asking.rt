@@ -1,6 +1,6 @@
 //! What an operation asks for, once for an instruction.
 
-ghost use Rattle.std.specs.Prelude.{◌≡◌};
+ghost use Rattle.std.specs.Prelude.{◌≡◌, Some, is_some, true};
 ghost use Rattle.zflow.specs.Transfer.{demands_of, divisor_of, naming, nothing, small};
 ghost use Rattle.zflow.specs.Kept.{both};
 
@@ -8,62 +8,31 @@ use crate::parts::{Access, Asked, Buffers, Demands, Elements, Pairs, Texts};
 use zarray::Width;
 use zcode::Operation;
 use zdomain::Domain;
-use zword::BinaryOp;
+use zword::{Addressing, BinaryOp};
 
 /// What an operation asks for, by the sets of its first two operands.
 #[tactic(auto, unfolding(crate::specs::Transfer::demands_of))]
 pub(crate) fn demands_of<V: Domain>(operation: Operation, first: V, second: V) -> Demands<V>
     ensures { result ≡ demands_of V.operations operation (both first second) }
 {
-    let mut demands = nothing();
     match operation {
-        Operation::Binary(op) => demands.divisor = divisor_of(op, second),
-        Operation::Count(..) | Operation::Store | Operation::Load => return naming(named(first)),
-        Operation::Jump => demands.certain = first.known().is_some(),
-        Operation::Print | Operation::PrintReturn => demands.has_text = true,
-        Operation::Inside | Operation::Follow(_) | Operation::Remove => {
-            demands.object = Some(first);
-        }
-        Operation::PrintObject => {
-            demands.object = Some(first);
-            demands.named = Some(first);
-        }
-        Operation::Property(question) => {
-            demands.object = Some(first);
-            demands.property = Some(pairs(Asked::Answered(question), first, second));
-        }
-        Operation::SetProperty => {
-            demands.object = Some(first);
-            demands.property = Some(pairs(Asked::Filled, first, second));
-        }
-        Operation::PropertyLength => demands.address = Some(first),
-        Operation::PrintAt(addressing) => {
-            demands.texts = Some(Texts {
-                addressing,
-                places: first,
-            });
-        }
-        Operation::ShowStatus => demands.shows_status = true,
-        Operation::ReadLine => {
-            demands.shows_status = true;
-            demands.buffers = Some(Buffers {
-                texts: first,
-                parses: second,
-            });
-        }
-        Operation::LoadArray(width) => {
-            demands.elements = Some(elements(Access::Reading, width, first, second));
-        }
-        Operation::StoreArray(width) => {
-            demands.elements = Some(elements(Access::Writing, width, first, second));
-        }
-        Operation::Insert => {
-            demands.object = Some(first);
-            demands.under = Some(second);
-        }
+        Operation::Binary(op) => dividing(op, second),
+        Operation::Count(..) | Operation::Store | Operation::Load => naming(named(first)),
+        Operation::Jump => jumping(first),
+        Operation::Print | Operation::PrintReturn => printing(),
+        Operation::Inside | Operation::Follow(_) | Operation::Remove => of_object(first),
+        Operation::PrintObject => printing_name(first),
+        Operation::Property(question) => of_property(Asked::Answered(question), first, second),
+        Operation::SetProperty => of_property(Asked::Filled, first, second),
+        Operation::PropertyLength => measuring(first),
+        Operation::PrintAt(addressing) => printing_at(addressing, first),
+        Operation::ShowStatus => showing(),
+        Operation::ReadLine => reading(first, second),
+        Operation::LoadArray(width) => of_elements(Access::Reading, width, first, second),
+        Operation::StoreArray(width) => of_elements(Access::Writing, width, first, second),
+        Operation::Insert => putting_under(first, second),
         Operation::TestAttribute | Operation::SetAttribute | Operation::ClearAttribute => {
-            demands.object = Some(first);
-            demands.attribute = Some(second);
+            of_attribute(first, second)
         }
         Operation::Unary(_)
         | Operation::Compare(_)
@@ -78,9 +47,8 @@ pub(crate) fn demands_of<V: Domain>(operation: Operation, first: V, second: V) -
         | Operation::Random
         | Operation::Save
         | Operation::Restore
-        | Operation::Restart => {}
+        | Operation::Restart => nothing(),
     }
-    demands
 }
 
 /// The variable that a value of the set names, where that is known.
@@ -127,26 +95,162 @@ fn naming<V: Domain>(variable: Option<u8>) -> Demands<V>
     }
 }
 
-/// What is asked of each property of an object of one set with a number of another.
-fn pairs<V: Domain>(asked: Asked, objects: V, numbers: V) -> Pairs<V>
-    ensures { result ≡ record { asked = asked; objects = objects; numbers = numbers } }
+// Each family has a function of its own, so that the room for what it asks is taken where its operation comes alone.
+
+/// The values by which it divides, if it does.
+#[inline(never)]
+fn dividing<V: Domain>(operation: BinaryOp, second: V) -> Demands<V>
+    ensures { result ≡ record nothing { divisor = divisor_of operation second } }
 {
-    Pairs {
-        asked,
-        objects,
-        numbers,
+    Demands {
+        divisor: divisor_of(operation, second),
+        ..nothing()
     }
 }
 
-/// What is done with each element of an array of one set at an index of another.
-fn elements<V: Domain>(access: Access, width: Width, arrays: V, indices: V) -> Elements<V>
-    ensures { result ≡ record { access = access; width = width; arrays = arrays; indices = indices } }
+/// A way that has to be known.
+#[inline(never)]
+fn jumping<V: Domain>(first: V) -> Demands<V>
+    ensures { result ≡ record nothing { certain = is_some (V.operations.known first) } }
 {
-    Elements {
-        access,
-        width,
-        arrays,
-        indices,
+    Demands {
+        certain: first.known().is_some(),
+        ..nothing()
+    }
+}
+
+/// A text behind the opcode byte.
+#[inline(never)]
+fn printing<V: Domain>() -> Demands<V>
+    ensures { result ≡ record nothing { has_text = true } }
+{
+    Demands {
+        has_text: true,
+        ..nothing()
+    }
+}
+
+/// An object.
+#[inline(never)]
+fn of_object<V: Domain>(first: V) -> Demands<V>
+    ensures { result ≡ record nothing { object = Some first } }
+{
+    Demands {
+        object: Some(first),
+        ..nothing()
+    }
+}
+
+/// An object whose short name is printed.
+#[inline(never)]
+fn printing_name<V: Domain>(first: V) -> Demands<V>
+    ensures { result ≡ record nothing { object = Some first; named = Some first } }
+{
+    Demands {
+        object: Some(first),
+        named: Some(first),
+        ..nothing()
+    }
+}
+
+/// Each property of an object of one set with a number of another.
+#[inline(never)]
+fn of_property<V: Domain>(asked: Asked, objects: V, numbers: V) -> Demands<V>
+    ensures { result ≡ record nothing { object = Some objects; property = Some (record { asked = asked; objects = objects; numbers = numbers }) } }
+{
+    Demands {
+        object: Some(objects),
+        property: Some(Pairs {
+            asked,
+            objects,
+            numbers,
+        }),
+        ..nothing()
+    }
+}
+
+/// An address of a property's data.
+#[inline(never)]
+fn measuring<V: Domain>(first: V) -> Demands<V>
+    ensures { result ≡ record nothing { address = Some first } }
+{
+    Demands {
+        address: Some(first),
+        ..nothing()
+    }
+}
+
+/// Texts at addresses.
+#[inline(never)]
+fn printing_at<V: Domain>(addressing: Addressing, first: V) -> Demands<V>
+    ensures { result ≡ record nothing { texts = Some (record { addressing = addressing; places = first }) } }
+{
+    Demands {
+        texts: Some(Texts {
+            addressing,
+            places: first,
+        }),
+        ..nothing()
+    }
+}
+
+/// The status line.
+#[inline(never)]
+fn showing<V: Domain>() -> Demands<V>
+    ensures { result ≡ record nothing { shows_status = true } }
+{
+    Demands {
+        shows_status: true,
+        ..nothing()
+    }
+}
+
+/// The status line, and the buffers of a line.
+#[inline(never)]
+fn reading<V: Domain>(texts: V, parses: V) -> Demands<V>
+    ensures { result ≡ record nothing { buffers = Some (record { texts = texts; parses = parses }); shows_status = true } }
+{
+    Demands {
+        buffers: Some(Buffers { texts, parses }),
+        ..showing()
+    }
+}
+
+/// Each element of an array of one set at an index of another.
+#[inline(never)]
+fn of_elements<V: Domain>(access: Access, width: Width, arrays: V, indices: V) -> Demands<V>
+    ensures { result ≡ record nothing { elements = Some (record { access = access; width = width; arrays = arrays; indices = indices }) } }
+{
+    Demands {
+        elements: Some(Elements {
+            access,
+            width,
+            arrays,
+            indices,
+        }),
+        ..nothing()
+    }
+}
+
+/// An object, and that which it is put under.
+#[inline(never)]
+fn putting_under<V: Domain>(first: V, second: V) -> Demands<V>
+    ensures { result ≡ record nothing { object = Some first; under = Some second } }
+{
+    Demands {
+        under: Some(second),
+        ..of_object(first)
+    }
+}
+
+/// An object, and an attribute.
+#[inline(never)]
+fn of_attribute<V: Domain>(first: V, second: V) -> Demands<V>
+    ensures { result ≡ record nothing { object = Some first; attribute = Some second } }
+{
+    Demands {
+        attribute: Some(second),
+        ..of_object(first)
     }
 }
 

@@ -1,6 +1,6 @@
 //! What may come of an instruction, on each of its edges.
 
-ghost use Rattle.std.specs.Prelude.{◌≡◌, option_map, IfSome};
+ghost use Rattle.std.specs.Prelude.{◌≡◌, Some, option_map, IfSome};
 ghost use Rattle.zflow.specs.Transfer.{leading, narrowed, read_set, with_assigned, with_result};
 ghost use Rattle.zcode.specs.Operation.{target};
 ghost use Rattle.zflow.specs.Kept.{shape_of};
@@ -74,8 +74,8 @@ pub fn flow_of<'a, V: Domain>(
     Flow {
         popped,
         demands: demands_of(operation, first, second),
-        held: edge_of(locals, left, instruction, outcomes.held),
-        failed: edge_of(locals, left, instruction, outcomes.failed),
+        held: edge_of(locals, left, instruction, &outcomes.held),
+        failed: edge_of(locals, left, instruction, &outcomes.failed),
     }
 }
 
@@ -100,21 +100,38 @@ pub fn first_known<V: Domain>(
 }
 
 /// The edge on which an outcome comes, if it may come. The locals and the slots, the top last, are those that the operands left.
+#[inline(never)]
 fn edge_of<'a, V: Domain>(
     locals: &'a [V],
     slots: &'a [V],
     instruction: &Instr,
-    outcome: Option<Outcome<V>>,
+    outcome: &Option<Outcome<V>>,
 ) -> Option<Edge<'a, V>>
-    ensures outcome { option_map (λ x. x.outcome) result ≡ outcome }
+    ensures outcome { option_map (λ x. x.outcome) result ≡ outcome.now }
     ensures lead { IfSome result (λ x. x.lead ≡ leading V.operations x.outcome instruction.now.branch) }
     ensures after { IfSome result (λ x. x.after ≡ narrowed V.operations x.outcome.kept (with_result x.outcome.gives (target instruction.now) (with_assigned x.outcome.assigns (shape_of locals.now slots.now)))) }
 {
-    let outcome = outcome?;
+    match outcome {
+        Some(outcome) => edge_with(locals, slots, instruction, outcome),
+        None => None,
+    }
+}
+
+/// The edge on which an outcome comes. It stands apart so that no room is taken for an edge where none is.
+fn edge_with<'a, V: Domain>(
+    locals: &'a [V],
+    slots: &'a [V],
+    instruction: &Instr,
+    outcome: &Outcome<V>,
+) -> Option<Edge<'a, V>>
+    ensures outcome { option_map (λ x. x.outcome) result ≡ Some outcome.now }
+    ensures lead { IfSome result (λ x. x.lead ≡ leading V.operations x.outcome instruction.now.branch) }
+    ensures after { IfSome result (λ x. x.after ≡ narrowed V.operations x.outcome.kept (with_result x.outcome.gives (target instruction.now) (with_assigned x.outcome.assigns (shape_of locals.now slots.now)))) }
+{
     Some(Edge {
-        outcome,
-        lead: leading(&outcome, instruction.branch()),
-        after: Known::after(locals, slots, &outcome, instruction.target()),
+        outcome: *outcome,
+        lead: leading(outcome, instruction.branch()),
+        after: Known::after(locals, slots, outcome, instruction.target()),
     })
 }
 

@@ -8,14 +8,18 @@ ghost use Rattle.zflow.specs.Kept.{both};
 ghost use Rattle.zflow.specs.Lent.{globals_seen};
 ghost use Rattle.zflow.specs.View.{seen};
 ghost use Rattle.zpairs.specs.Frozen.{FrozenStory};
+ghost use Rattle.zpairs.specs.Pairs.{answers};
+ghost use Rattle.zruns.specs.Runs.{elements};
 
 use crate::asking::named;
 use crate::parts::{Kept, Lead, Outcome};
 use crate::view::View;
+use zarray::Width;
 use zcode::{Operand, Operation};
 use zdomain::Domain;
+use zobj::PropertyQuestion;
 use zruns::Tables;
-use zword::{CountOp, Question};
+use zword::{BinaryOp, CountOp, Question, UnaryOp};
 
 /// How many bytes of data a property has at most (Z 12.4.1).
 const LONGEST_DATA: u16 = 8;
@@ -43,8 +47,8 @@ pub(crate) fn outcomes_of<V: Domain>(
     ensures failed { result.failed ≡ outcome_of V.operations (globals_seen view.entry.globals) tables.now operation operands.now (both first second) (seen view.entry) false }
 {
     match operation {
-        Operation::Unary(op) => once(gives_in(V::unary(op, first))),
-        Operation::Binary(op) => once(gives_in(V::binary(op, first, second))),
+        Operation::Unary(op) => transformed(op, first),
+        Operation::Binary(op) => computed(op, first, second),
         Operation::Compare(question) => compared(question, operands, first, second),
         Operation::Count(op, question) => counted(op, question, first, second, view),
         Operation::Store => stored(first, second),
@@ -65,24 +69,108 @@ pub(crate) fn outcomes_of<V: Domain>(
         | Operation::PrintAt(_)
         | Operation::ShowStatus
         | Operation::StoreArray(_)
-        | Operation::ReadLine => once(goes_on()),
+        | Operation::ReadLine => going_on(),
         Operation::Quit | Operation::Restart => never(),
-        Operation::Return => once(returns_in(first)),
-        Operation::PrintReturn => once(returns_in(V::single(1))),
+        Operation::Return => returned(first),
+        Operation::PrintReturn => returned_true(),
         Operation::Call => called(first),
         Operation::Inside | Operation::TestAttribute => either(),
         Operation::Save => saved(),
         Operation::Restore => unrestored(),
         Operation::Follow(_) => followed(tables.story().objects()),
-        Operation::Property(question) => {
-            once(gives_in(tables.properties().answers(question, first, second)))
-        }
-        Operation::LoadArray(width) => {
-            once(gives_in(tables.runs().elements(width, first, second)))
-        }
-        Operation::PropertyLength => once(gives_in(V::between(0, LONGEST_DATA))),
-        Operation::Random => once(gives_in(drawn(first))),
+        Operation::Property(question) => answered(tables, question, first, second),
+        Operation::LoadArray(width) => element_read(tables, width, first, second),
+        Operation::PropertyLength => measured(),
+        Operation::Random => number_drawn(first),
     }
+}
+
+// Each family has a function of its own, so that the room for what it makes is taken where its operation comes alone.
+
+/// What a unary operation makes is given.
+#[inline(never)]
+fn transformed<V: Domain>(op: UnaryOp, first: V) -> Outcomes<V>
+    ensures held { result.held ≡ Some (gives_in (V.operations.unary op first)) }
+    ensures failed { result.failed ≡ None }
+{
+    once(gives_in(V::unary(op, first)))
+}
+
+/// What a binary one makes is.
+#[inline(never)]
+fn computed<V: Domain>(op: BinaryOp, first: V, second: V) -> Outcomes<V>
+    ensures held { result.held ≡ Some (gives_in (V.operations.binary op first second)) }
+    ensures failed { result.failed ≡ None }
+{
+    once(gives_in(V::binary(op, first, second)))
+}
+
+/// What properties answer is.
+#[inline(never)]
+fn answered<V: Domain>(
+    tables: &Tables<'_>,
+    question: PropertyQuestion,
+    first: V,
+    second: V,
+) -> Outcomes<V>
+    ensures held { result.held ≡ Some (gives_in (answers V.operations tables.now question first second)) }
+    ensures failed { result.failed ≡ None }
+{
+    once(gives_in(tables.properties().answers(question, first, second)))
+}
+
+/// What elements of arrays may be is.
+#[inline(never)]
+fn element_read<V: Domain>(tables: &Tables<'_>, width: Width, first: V, second: V) -> Outcomes<V>
+    ensures held { result.held ≡ Some (gives_in (elements V.operations tables.now width first second)) }
+    ensures failed { result.failed ≡ None }
+{
+    once(gives_in(tables.runs().elements(width, first, second)))
+}
+
+/// A length of a property's data is.
+#[inline(never)]
+fn measured<V: Domain>() -> Outcomes<V>
+    ensures held { result.held ≡ Some (gives_in (V.operations.between 0 8)) }
+    ensures failed { result.failed ≡ None }
+{
+    once(gives_in(V::between(0, LONGEST_DATA)))
+}
+
+/// What is drawn is.
+#[inline(never)]
+fn number_drawn<V: Domain>(first: V) -> Outcomes<V>
+    ensures held { result.held ≡ Some (gives_in (drawn_set V.operations first)) }
+    ensures failed { result.failed ≡ None }
+{
+    once(gives_in(drawn(first)))
+}
+
+/// The next instruction comes.
+#[inline(never)]
+fn going_on<V: Domain>() -> Outcomes<V>
+    ensures held { result.held ≡ Some goes_on }
+    ensures failed { result.failed ≡ None }
+{
+    once(goes_on())
+}
+
+/// The routine ends, with a value of the set.
+#[inline(never)]
+fn returned<V: Domain>(set: V) -> Outcomes<V>
+    ensures held { result.held ≡ Some (returns_in set) }
+    ensures failed { result.failed ≡ None }
+{
+    once(returns_in(set))
+}
+
+/// The routine ends, with 1.
+#[inline(never)]
+fn returned_true<V: Domain>() -> Outcomes<V>
+    ensures held { result.held ≡ Some (returns_in (V.operations.single 1)) }
+    ensures failed { result.failed ≡ None }
+{
+    once(returns_in(V::single(1)))
 }
 
 /// What asks nothing has one outcome.
