@@ -26,7 +26,7 @@ pub(crate) enum LineEnd {
 
 /// Bytes that were read ahead, in lines.
 #[derive(Drop)]
-pub(crate) struct Lines {
+pub struct Lines {
     piece: [u8; PIECE],
     /// The bytes of the piece from here to `to` aren't used yet.
     from: usize,
@@ -48,7 +48,7 @@ impl Model for Lines {
 
 impl Lines {
     /// No byte was read yet.
-    pub(crate) fn new() -> Lines
+    pub fn new() -> Lines
         ensures { result ≡ record { held = []; ended = false } }
     {
         Lines {
@@ -61,7 +61,7 @@ impl Lines {
 
     /// The next line, if there is one: it goes up to a byte 10, or to the end of the input. What a line has beyond
     /// [`LINE_LIMIT`] bytes is dropped, and so is a byte 13 just before the 10.
-    pub(crate) fn next_line<R: Source>(&mut self, reader: &mut R) -> Result<Option<Line>, PlayError>
+    pub fn next_line<R: Source>(&mut self, reader: &mut R) -> Result<Option<Line>, PlayError>
         requires ended { KnowsEnd self.old (R.remaining reader.old) }
         ensures heard { IfOk result (λ line. Hears (unused self.old (R.remaining reader.old)) line (unused self.new (R.remaining reader.new))) }
         ensures reads { BlamesReader R.remaining R.failures reader.old reader.new self.new (IsErrOf result PlayError.Read) }
