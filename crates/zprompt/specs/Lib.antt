@@ -1,0 +1,5 @@
+pub mod Answers
+pub mod Commands
+pub mod Given
+pub mod Prompts
+pub mod Turns
