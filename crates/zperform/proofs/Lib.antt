@@ -1,6 +1,7 @@
 mod FileLemmas
 mod StoryFiles
 mod PlayLemmas
+mod PromptLemmas
 mod PerformLemmas
 mod AcceptLemmas
 mod FeedLemmas

@@ -23,4 +23,5 @@ pub mod Seeking
 pub mod Beside
 pub mod Performing
 pub mod Played
+pub mod Prompting
 pub mod Unpacking

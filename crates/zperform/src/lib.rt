@@ -21,6 +21,7 @@ mod outcome;
 mod performing;
 mod playing;
 mod progress;
+mod prompting;
 mod saves;
 mod seeking;
 mod showing;
@@ -31,6 +32,8 @@ mod wording;
 
 pub use blame::{Action, Blame, Cause};
 pub use files::{Disk, Files, read_file};
-pub use outcome::{Failure, Outcome, Problem};
+pub use outcome::{Failure, Outcome, Problem, Purpose};
 pub use performing::{fail, perform, refuse_bytes, report};
+pub use playing::{Asked, Devices};
+pub use prompting::play_prompting;
 pub use wording::Speech;

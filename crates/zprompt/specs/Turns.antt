@@ -1,5 +1,5 @@
 -- The states that are kept, the newest last.
-use Rattle.std.specs.Prelude.{◌≡◌, ◌⊎◌, ℕ, List, [], ◌∷◌, ◌++◌, length, drop, nat_lt, if◌then◌else◌}
+use Rattle.std.specs.Prelude.{◌≡◌, ◌⊎◌, List, [], ◌∷◌, ◌++◌, length, drop, nat_lt, if◌then◌else◌}
 use Rattle.zstate.specs.State.{State}
 use Rattle.zprompt.specs.declared.turns.TheConstants.{MOST_TURNS}
 
