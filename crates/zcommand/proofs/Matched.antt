@@ -17,7 +17,7 @@ use Rattle.clap.specs.Words.{ReadsOne, Row, Text, first_of, first_value, matched
 use Rattle.clap.specs.declared.parser.matches.ArgMatches.{ArgMatches}
 use Rattle.clap.specs.declared.parser.matches.ArgMatches.TheViews.{out-ArgMatches, out-SubCommand}
 use Rattle.clap.specs.Simple.{subcommand_rows}
-use Rattle.zcommand.specs.CommandLine.{Front, IsLow, IsReadFrom, address_of, certificate_of, code_of, debug_asked, files_of, fitting, fitting_in, frames_of, front_named, front_of, is_asked, is_limit, is_no_save_asked, is_plain_asked, is_width, number_in, number_of, out_of, output_of, packed_of, pair_of, save_of, story_of, target_of, width_of}
+use Rattle.zcommand.specs.CommandLine.{Front, IsLow, IsReadFrom, address_of, certificate_of, code_of, debug_asked, files_of, fitting, fitting_in, frames_of, front_named, front_of, is_asked, is_commands_asked, is_limit, is_no_save_asked, is_plain_asked, is_width, number_in, number_of, out_of, output_of, packed_of, pair_of, save_of, story_of, target_of, width_of}
 use Rattle.zcommand.specs.declared.words.Command.{Command}
 use Rattle.zcommand.specs.declared.words.Command.TheVariants as commands
 use Rattle.zcommand.specs.declared.words.Front.{Front as NamedFront}
@@ -296,15 +296,15 @@ rows_named m name rows named given = pair (subcommand_rows_of m) (name_first m �
 pub front_read : (found : Found) (front : NamedFront) → front.width ≡ width_of (rows_of found) → front.plain ≡ is_plain_asked (rows_of found)
     → option_map (λ s. s.now) front.transcript ≡ first_value found (codes "transcript")
     → option_map (λ s. s.now) front.record ≡ first_value found (codes "record") → option_map (λ s. s.now) front.replay ≡ first_value found (codes "replay")
-    → front.no_save ≡ is_no_save_asked (rows_of found) → front_named front ≡ front_of (rows_of found)
-front_read found front width plain told kept before unkept =
-    six _ _ _ _ _ _ _ _ _ _ _ _ width plain (told ∙ first_value-rows found (codes "transcript")) (kept ∙ first_value-rows found (codes "record"))
-    (before ∙ first_value-rows found (codes "replay")) unkept
+    → front.no_save ≡ is_no_save_asked (rows_of found) → front.commands ≡ is_commands_asked (rows_of found) → front_named front ≡ front_of (rows_of found)
+front_read found front width plain told kept before unkept own =
+    seven _ _ _ _ _ _ _ _ _ _ _ _ _ _ width plain (told ∙ first_value-rows found (codes "transcript")) (kept ∙ first_value-rows found (codes "record"))
+    (before ∙ first_value-rows found (codes "replay")) unkept own
   where
-    front_with : Option ℕ → Bool → Option Text → Option Text → Option Text → Bool → Front
-    front_with width plain told kept before unkept =
-        record { width = width; plain = plain; transcript = told; typed_to = kept; typed_before = before; no_save = unkept }
+    front_with : Option ℕ → Bool → Option Text → Option Text → Option Text → Bool → Bool → Front
+    front_with width plain told kept before unkept own =
+        record { width = width; plain = plain; transcript = told; typed_to = kept; typed_before = before; no_save = unkept; commands = own }
 
-    six : (w v : Option ℕ) (p q : Bool) (t u k l b c : Option Text) (n m : Bool) → w ≡ v → p ≡ q → t ≡ u → k ≡ l → b ≡ c → n ≡ m
-        → front_with w p t k b n ≡ front_with v q u l c m
-    six w v p q t u k l b c n m width plain told kept before unkept = cc
+    seven : (w v : Option ℕ) (p q : Bool) (t u k l b c : Option Text) (n m o r : Bool) → w ≡ v → p ≡ q → t ≡ u → k ≡ l → b ≡ c → n ≡ m → o ≡ r
+        → front_with w p t k b n o ≡ front_with v q u l c m r
+    seven w v p q t u k l b c n m o r width plain told kept before unkept own = cc

@@ -82,11 +82,12 @@ shown :
     × AskFront (codes "play" ∷ codes "--record=b.txt" ∷ codes "a.z3" ∷ []) (record no_front { typed_to = Some (codes "b.txt") })
     × AskFront (codes "play" ∷ codes "--replay" ∷ codes "b.txt" ∷ codes "a.z3" ∷ []) (record no_front { typed_before = Some (codes "b.txt") })
     × AskFront (codes "play" ∷ codes "a.z3" ∷ codes "--no-save" ∷ []) (record no_front { no_save = true })
-    × AskFront (codes "play" ∷ codes "--no-save" ∷ codes "--replay" ∷ codes "d" ∷ codes "--record" ∷ codes "c" ∷ codes "--transcript" ∷ codes "b" ∷ codes "--plain" ∷ codes "--width" ∷ codes "1" ∷ codes "a.z3" ∷ codes "--save" ∷ codes "e" ∷ [])
-    (record { width = Some 1; plain = true; transcript = Some (codes "b"); typed_to = Some (codes "c"); typed_before = Some (codes "d"); no_save = true })
+    × AskFront (codes "play" ∷ codes "a.z3" ∷ codes "--commands" ∷ []) (record no_front { commands = true })
+    × AskFront (codes "play" ∷ codes "--no-save" ∷ codes "--commands" ∷ codes "--replay" ∷ codes "d" ∷ codes "--record" ∷ codes "c" ∷ codes "--transcript" ∷ codes "b" ∷ codes "--plain" ∷ codes "--width" ∷ codes "1" ∷ codes "a.z3" ∷ codes "--save" ∷ codes "e" ∷ [])
+    (record { width = Some 1; plain = true; transcript = Some (codes "b"); typed_to = Some (codes "c"); typed_before = Some (codes "d"); no_save = true; commands = true })
     × AskFront (codes "check" ∷ codes "a.z3" ∷ []) no_front
 unfolding walked bundle_met chars encode_utf8 flags_fault walk_fault defaults_fault
-shown = ((refl, refl), (refl, refl), (refl, refl), (refl, refl), (refl, refl), (refl, refl), (refl, refl), (refl, refl), (refl, refl), (refl, refl))
+shown = ((refl, refl), (refl, refl), (refl, refl), (refl, refl), (refl, refl), (refl, refl), (refl, refl), (refl, refl), (refl, refl), (refl, refl), (refl, refl))
 
 -- words that ask for nothing that is wrong, and name this file of debug information
 abbrev AskDebug : List Text → Option Text → Type 0

@@ -110,6 +110,10 @@ replay_rule = file_rule (codes "replay")
 abbrev pub no_save_rule : Rule
 no_save_rule = record (new_rule (codes "no-save")) { long = Some (codes "no-save"); action = Some SetTrue }
 
+-- `--commands`, a flag
+abbrev pub commands_rule : Rule
+commands_rule = record (new_rule (codes "commands")) { long = Some (codes "commands"); action = Some SetTrue }
+
 -- `--debug FILE`
 abbrev pub debug_rule : Rule
 debug_rule = file_rule (codes "debug")
@@ -194,9 +198,9 @@ frontless_app = with_rule strict_app lenient_rule
 abbrev pub showing_app : App
 showing_app = with_rule (with_rule (with_rule frontless_app width_rule) plain_rule) transcript_rule
 
--- the same with `--record FILE --replay FILE --no-save --debug FILE`
+-- the same with `--record FILE --replay FILE --no-save --commands --debug FILE`
 abbrev pub play_app : App
-play_app = with_rule (with_rule (with_rule (with_rule showing_app record_rule) replay_rule) no_save_rule) debug_rule
+play_app = with_rule (with_rule (with_rule (with_rule (with_rule showing_app record_rule) replay_rule) no_save_rule) commands_rule) debug_rule
 
 -- `info STORY --json`
 abbrev pub info_app : App
@@ -324,6 +328,10 @@ is_plain_asked rows = is_asked (codes "plain") rows
 abbrev pub is_no_save_asked : List Row → Bool
 is_no_save_asked rows = is_asked (codes "no-save") rows
 
+-- and whether the player has commands of its own
+abbrev pub is_commands_asked : List Row → Bool
+is_commands_asked rows = is_asked (codes "commands") rows
+
 -- and whether an object of JSON is to be answered
 abbrev pub is_json_asked : List Row → Bool
 is_json_asked rows = is_asked (codes "json") rows
@@ -385,6 +393,8 @@ pub record Front : Type 0 where
   pub typed_before : Option Text
   -- no saves are kept, on a terminal too
   pub no_save : Bool
+  -- the player has commands of its own
+  pub commands : Bool
 
 -- what the matches of `play` say of it
 abbrev pub front_of : List Row → Front
@@ -396,11 +406,12 @@ front_of rows =
       typed_to = record_of rows;
       typed_before = replay_of rows;
       no_save = is_no_save_asked rows;
+      commands = is_commands_asked rows;
     }
 
 -- a front that asks for nothing
 abbrev pub no_front : Front
-no_front = record { width = None; plain = false; transcript = None; typed_to = None; typed_before = None; no_save = false }
+no_front = record { width = None; plain = false; transcript = None; typed_to = None; typed_before = None; no_save = false; commands = false }
 
 -- what the matches of a command say of it: those of another than `play` ask for nothing
 abbrev pub front_asked : Option (Text × List Row) → Front
@@ -417,6 +428,7 @@ front_named front =
       typed_to = option_map (λ f. f.now) front.record;
       typed_before = option_map (λ f. f.now) front.replay;
       no_save = front.no_save;
+      commands = front.commands;
     }
 
 -- the name of the file of debug information among the matches of a command, if there is one

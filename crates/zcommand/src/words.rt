@@ -32,6 +32,8 @@ pub struct Front<'a> {
     pub replay: Option<&'a str>,
     /// Whether no saves are kept, on a terminal too.
     pub no_save: bool,
+    /// Whether lines that begin with a `/` are commands of the player's own, which the story doesn't see.
+    pub commands: bool,
 }
 
 impl<'a> Front<'a> {
@@ -46,6 +48,7 @@ impl<'a> Front<'a> {
             record: None,
             replay: None,
             no_save: false,
+            commands: false,
         }
     }
 }
@@ -429,6 +432,7 @@ fn play_front_of<'a>(matches: &ArgMatches<'a>) -> Front<'a>
     let record = matches.get_str("record");
     let replay = matches.get_str("replay");
     let no_save = matches.get_one("no-save").unwrap_or(false);
+    let commands = matches.get_one("commands").unwrap_or(false);
     Front {
         width,
         plain,
@@ -436,6 +440,7 @@ fn play_front_of<'a>(matches: &ArgMatches<'a>) -> Front<'a>
         record,
         replay,
         no_save,
+        commands,
     }
 }
 

@@ -148,7 +148,7 @@ Goes on after faults as interpreters do, and tells of them
 Wraps text at so many columns, from 1 to 1000
 .TP
 \\fB\\-\\-plain\\fR
-Wraps nothing, on a terminal too
+Wraps nothing, stops nowhere and draws no status line, on a terminal too
 .TP
 \\fB\\-\\-transcript\\fR \\fIFILE\\fR
 The file that the text and the lines typed are kept in
@@ -161,6 +161,9 @@ A file whose lines are read before those typed
 .TP
 \\fB\\-\\-no\\-save\\fR
 Keeps no saves, on a terminal too
+.TP
+\\fB\\-\\-commands\\fR
+Does /undo, /quit and /help itself, each prompt with a budget of its own
 .TP
 \\fB\\-\\-debug\\fR \\fIFILE\\fR
 Tells the source\\(aqs lines and names by this file, which Inform 6 writes with \\-k
