@@ -28,6 +28,7 @@ from marks import see_marks
 from objects import see_objects
 from plays import see_plays
 from program import Answer, Count, Program
+from prompts import see_prompts
 from properties import see_properties
 from samples import CODE, HELLO, NEW_LINE, NOP, QUIT, certificate, changed, interval, story, with_objects
 from showing import see_showing
@@ -485,6 +486,7 @@ def main():
     see_manual(program, count, manual_page())
     see_excused(program, count)
     see_fronts(program, count)
+    see_prompts(program, count)
     see_facts(program, count)
     see_stated(program, count)
     see_many(program, count, help_text("no_file_to_check.txt"), help_text("one_for_many.txt"))

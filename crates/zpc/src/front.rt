@@ -2,6 +2,7 @@
 
 use crate::asking::Asked;
 use crate::keeping::{open, open_again};
+use crate::prompting::perform_prompted;
 use crate::sources::{Undebugged, debug_info, refuse};
 use crate::terminal::{Shape, shape_of};
 use std::alloc::Global;
@@ -394,15 +395,27 @@ fn with_transcript<K: Write + Drop, F: Files, R: Source, W: Sink, E: Sink>(
     errors: &mut E,
 ) -> Ended {
     let mut reader = Recorded::new(lines, transcript.as_mut());
-    let status = perform(
-        context.rt.alloc(),
-        context.words,
-        speech_to(context.rt),
-        files,
-        &mut reader,
-        writer,
-        errors,
-    );
+    let status = if has_commands(context) {
+        perform_prompted(
+            context.rt.alloc(),
+            context.words,
+            speech_to(context.rt),
+            files,
+            &mut reader,
+            writer,
+            errors,
+        )
+    } else {
+        perform(
+            context.rt.alloc(),
+            context.words,
+            speech_to(context.rt),
+            files,
+            &mut reader,
+            writer,
+            errors,
+        )
+    };
     Ended {
         status,
         is_transcribed: reader.is_whole(),
@@ -433,6 +446,16 @@ fn shows_progress(rt: &HostRuntime, words: &[&str]) -> bool {
         Some(first) => (*first == "find" || *first == "check") && rt.stderr().is_terminal(),
         None => false,
     }
+}
+
+/// Whether a play has the player's own commands: where that is asked for, or lines are typed and text shown on terminals.
+fn has_commands(context: Context<'_>) -> bool {
+    let Some(asked) = context.asked else {
+        return false;
+    };
+    let rt = context.rt;
+    let is_typed = rt.stdin().is_terminal() && rt.stdout().is_terminal();
+    asked.front.commands || (is_typed && !asked.front.plain)
 }
 
 /// Whether lines are typed, and text and errors shown, on terminals.

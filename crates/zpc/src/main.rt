@@ -8,6 +8,7 @@ mod asking;
 mod front;
 mod keeping;
 mod manual;
+mod prompting;
 mod seed;
 mod sources;
 mod terminal;
