@@ -198,9 +198,13 @@ frontless_app = with_rule strict_app lenient_rule
 abbrev pub showing_app : App
 showing_app = with_rule (with_rule (with_rule frontless_app width_rule) plain_rule) transcript_rule
 
--- the same with `--record FILE --replay FILE --no-save --commands --debug FILE`
+-- the same with `--record FILE --replay FILE`
+abbrev pub recording_app : App
+recording_app = with_rule (with_rule showing_app record_rule) replay_rule
+
+-- the same with `--no-save --commands --debug FILE`
 abbrev pub play_app : App
-play_app = with_rule (with_rule (with_rule (with_rule (with_rule showing_app record_rule) replay_rule) no_save_rule) commands_rule) debug_rule
+play_app = with_rule (with_rule (with_rule recording_app no_save_rule) commands_rule) debug_rule
 
 -- `info STORY --json`
 abbrev pub info_app : App

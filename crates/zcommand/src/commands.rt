@@ -3,7 +3,7 @@
 ghost use Rattle.std.specs.Prelude.{◌≡◌, IfOk, false};
 ghost use Rattle.clap.specs.Words.{app_of, rule_of};
 ghost use Rattle.clap.specs.declared.builder.command.Command.TheViews.{out-Command as fields_of};
-ghost use Rattle.zcommand.specs.CommandLine.{counted_app, frames_rule, framed_status_rule, framing_app, frontless_app, bare_app, budget_rule, certificate_rule, address_rule, certifying_app, check_app, code_rule, commands_rule, debug_rule, explain_app, file_rule, files_app, files_rule, find_app, force_rule, info_app, json_rule, lenient_rule, list_app, many_app, marking_app, naming_app, no_save_rule, out_rule, output_rule, packed_rule, places_rule, plain_rule, play_app, playing_app, record_rule, replay_rule, save_rule, saveless_app, seed_rule, show_app, showing_app, status_rule, story_rule, strict_app, strict_rule, tell_rule, transcript_rule, unpack_app, width_rule, word_rule, zpc_app};
+ghost use Rattle.zcommand.specs.CommandLine.{counted_app, frames_rule, framed_status_rule, framing_app, frontless_app, bare_app, budget_rule, certificate_rule, address_rule, certifying_app, check_app, code_rule, commands_rule, debug_rule, explain_app, file_rule, files_app, files_rule, find_app, force_rule, info_app, json_rule, lenient_rule, list_app, many_app, marking_app, naming_app, no_save_rule, out_rule, output_rule, packed_rule, places_rule, plain_rule, play_app, playing_app, record_rule, recording_app, replay_rule, save_rule, saveless_app, seed_rule, show_app, showing_app, status_rule, story_rule, strict_app, strict_rule, tell_rule, transcript_rule, unpack_app, width_rule, word_rule, zpc_app};
 
 use crate::words::{MOST_FRAMES, MOST_WIDTH};
 use clap::builder::ValueParser;
@@ -196,12 +196,20 @@ fn play<'a>(alloc: Global) -> Result<clap::Command<'a>, AllocError>
     ensures app { IfOk result (λ play. app_of play ≡ play_app) }
     ensures local { IfOk result (λ play. (fields_of play).has_globals ≡ false) }
 {
-    let play = showing(alloc)?.arg(recorded(alloc))?;
-    let play = play.arg(replayed(alloc))?.arg(no_save(alloc))?;
+    let play = recording(alloc)?.arg(no_save(alloc))?;
     play.arg(commands(alloc))?.arg(debug(alloc))
 }
 
-/// `play` without what is said of the lines typed, of keeping no saves, of the player's own commands, and of the source.
+/// `play` without what is said of keeping no saves, of the player's own commands, and of the source.
+fn recording<'a>(alloc: Global) -> Result<clap::Command<'a>, AllocError>
+    ensures app { IfOk result (λ play. app_of play ≡ recording_app) }
+    ensures local { IfOk result (λ play. (fields_of play).has_globals ≡ false) }
+{
+    let play = showing(alloc)?.arg(recorded(alloc))?;
+    play.arg(replayed(alloc))
+}
+
+/// The same without what is said of the lines typed.
 fn showing<'a>(alloc: Global) -> Result<clap::Command<'a>, AllocError>
     ensures app { IfOk result (λ play. app_of play ≡ showing_app) }
     ensures local { IfOk result (λ play. (fields_of play).has_globals ≡ false) }

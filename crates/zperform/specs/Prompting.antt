@@ -10,6 +10,7 @@ use Rattle.zplayer.specs.declared.end.PlayError.{PlayError}
 use Rattle.zplayer.specs.Lines.{unused}
 use Rattle.zplayer.specs.World.{World}
 use Rattle.zprompt.specs.Prompts.{At, ComesPrompted, nothing_ahead}
+use Rattle.zperform.specs.Accepting.{HoldsStory}
 use Rattle.zperform.specs.Report.{outcome_of, problem_of_play}
 use Rattle.zperform.specs.declared.outcome.Failure.TheVariants.{Memory}
 use Rattle.zperform.specs.declared.outcome.Outcome.{Outcome}
@@ -28,6 +29,10 @@ PromptedOut story scope options given before now outcome =
     × (last : At) × (last.written ≡ now)
     × ComesPrompted (setting_of story scope) options (record { state = opening story; turns = []; input = unused nothing_ahead given.input; words = given.words; store = given.store; written = before }) last result)
 
--- some story was, in some scope
-abbrev pub PromptedFrom : Options → World → Option (List ℕ) → Option (List ℕ) → Outcome → Type 0
-PromptedFrom options given before now outcome = (story : LoadedStory) × (scope : Scope) × PromptedOut story scope options given before now outcome
+-- in some scope
+abbrev pub PromptedIn : LoadedStory → Options → World → Option (List ℕ) → Option (List ℕ) → Outcome → Type 0
+PromptedIn story options given before now outcome = (scope : Scope) × PromptedOut story scope options given before now outcome
+
+-- the story that a file holds was
+abbrev pub PromptedFrom : Option (List ℕ) → Options → World → Option (List ℕ) → Option (List ℕ) → Outcome → Type 0
+PromptedFrom known options given before now outcome = (story : LoadedStory) × HoldsStory known story × PromptedIn story options given before now outcome

@@ -1,11 +1,12 @@
 //! Plays with the player's own commands at their prompts.
 
-ghost use Rattle.std.specs.Prelude.{IfOk, IsErrOf};
+ghost use Rattle.std.specs.Prelude.{◌≡◌, ℕ, List, IfOk, IsErrOf, Option, Some, take};
 ghost use Rattle.zplayer.specs.Outside.{Blames};
+ghost use Rattle.zperform.specs.Accepting.{IsAcceptedStory};
 ghost use Rattle.zperform.specs.Devices.{FlushesUnless};
 ghost use Rattle.zperform.specs.Performing.{given, store_of};
 ghost use Rattle.zperform.specs.Played.{SameDevices, file_of};
-ghost use Rattle.zperform.specs.Prompting.{PromptedFrom, PromptedOut};
+ghost use Rattle.zperform.specs.Prompting.{PromptedFrom, PromptedIn, PromptedOut};
 
 use crate::accepting::{AcceptedStory, STORY_LIMIT, accept, load_bytes};
 use crate::beside::{CertificateBeside, look_beside, say_unused};
@@ -54,7 +55,7 @@ pub fn play_prompting<F: Files, R: Source, W: Sink, E: Sink>(
     devices: &mut Devices<'_, F, R, W, E>,
 ) -> Result<End, Problem>
     ensures devices { SameDevices devices.old devices.new }
-    ensures comes { IfOk result (λ end. PromptedFrom asked.entry.options (given (R.remaining devices.old.reader.now) asked.entry.seed (store_of (file_of asked.entry))) (W.contents devices.old.writer.now) (W.contents devices.new.writer.now) (Outcome.Played end)) }
+    ensures comes { IfOk result (λ end. PromptedFrom (F.known devices.old.files.now story.now) asked.entry.options (given (R.remaining devices.old.reader.now) asked.entry.seed (store_of (file_of asked.entry))) (W.contents devices.old.writer.now) (W.contents devices.new.writer.now) (Outcome.Played end)) }
     ensures writer { FlushesUnless W.failures W.waits devices.old.writer.now devices.new.writer.now (IsErrOf result (Problem.Failed Failure.Write)) }
     ensures reader { Blames (IsErrOf result (Problem.Failed Failure.Read)) (R.failures devices.old.reader.now) (R.failures devices.new.reader.now) }
 {
@@ -75,7 +76,7 @@ fn play_beside<F: Files, R: Source, W: Sink, E: Sink>(
     devices: &mut Devices<'_, F, R, W, E>,
 ) -> Result<End, Problem>
     ensures devices { SameDevices devices.old devices.new }
-    ensures comes { IfOk result (λ end. PromptedFrom asked.entry.options (given (R.remaining devices.old.reader.now) asked.entry.seed (store_of (file_of asked.entry))) (W.contents devices.old.writer.now) (W.contents devices.new.writer.now) (Outcome.Played end)) }
+    ensures comes { IfOk result (λ end. PromptedFrom (F.known devices.old.files.now name.now) asked.entry.options (given (R.remaining devices.old.reader.now) asked.entry.seed (store_of (file_of asked.entry))) (W.contents devices.old.writer.now) (W.contents devices.new.writer.now) (Outcome.Played end)) }
     ensures writer { FlushesUnless W.failures W.waits devices.old.writer.now devices.new.writer.now (IsErrOf result (Problem.Failed Failure.Write)) }
     ensures reader { Blames (IsErrOf result (Problem.Failed Failure.Read)) (R.failures devices.old.reader.now) (R.failures devices.new.reader.now) }
 {
@@ -102,7 +103,7 @@ fn play_file<F: Files, R: Source, W: Sink, E: Sink>(
     devices: &mut Devices<'_, F, R, W, E>,
 ) -> Result<End, Problem>
     ensures devices { SameDevices devices.old devices.new }
-    ensures comes { IfOk result (λ end. PromptedFrom asked.entry.options (given (R.remaining devices.old.reader.now) asked.entry.seed (store_of (file_of asked.entry))) (W.contents devices.old.writer.now) (W.contents devices.new.writer.now) (Outcome.Played end)) }
+    ensures comes { (known : Option (List ℕ)) → ((bytes : List ℕ) → known ≡ Some bytes → file.now ≡ take 131073 bytes) → IfOk result (λ end. PromptedFrom known asked.entry.options (given (R.remaining devices.old.reader.now) asked.entry.seed (store_of (file_of asked.entry))) (W.contents devices.old.writer.now) (W.contents devices.new.writer.now) (Outcome.Played end)) }
     ensures writer { FlushesUnless W.failures W.waits devices.old.writer.now devices.new.writer.now (IsErrOf result (Problem.Failed Failure.Write)) }
     ensures reader { Blames (IsErrOf result (Problem.Failed Failure.Read)) (R.failures devices.old.reader.now) (R.failures devices.new.reader.now) }
 {
@@ -118,7 +119,7 @@ fn play_accepted<F: Files, R: Source, W: Sink, E: Sink>(
     devices: &mut Devices<'_, F, R, W, E>,
 ) -> Result<End, Problem>
     ensures devices { SameDevices devices.old devices.new }
-    ensures comes { IfOk result (λ end. PromptedFrom asked.entry.options (given (R.remaining devices.old.reader.now) asked.entry.seed (store_of (file_of asked.entry))) (W.contents devices.old.writer.now) (W.contents devices.new.writer.now) (Outcome.Played end)) }
+    ensures comes { (known certificate : Option (List ℕ)) → IsAcceptedStory known certificate accepted.now → IfOk result (λ end. PromptedFrom known asked.entry.options (given (R.remaining devices.old.reader.now) asked.entry.seed (store_of (file_of asked.entry))) (W.contents devices.old.writer.now) (W.contents devices.new.writer.now) (Outcome.Played end)) }
     ensures writer { FlushesUnless W.failures W.waits devices.old.writer.now devices.new.writer.now (IsErrOf result (Problem.Failed Failure.Write)) }
     ensures reader { Blames (IsErrOf result (Problem.Failed Failure.Read)) (R.failures devices.old.reader.now) (R.failures devices.new.reader.now) }
 {
@@ -152,7 +153,7 @@ fn play_there<F: Files, R: Source, W: Sink, E: Sink>(
     devices: &mut Devices<'_, F, R, W, E>,
 ) -> Result<End, Problem>
     ensures devices { SameDevices devices.old devices.new }
-    ensures comes { IfOk result (λ end. PromptedFrom asked.entry.options (given (R.remaining devices.old.reader.now) asked.entry.seed (store_of (file_of asked.entry))) (W.contents devices.old.writer.now) (W.contents devices.new.writer.now) (Outcome.Played end)) }
+    ensures comes { IfOk result (λ end. PromptedIn story.now asked.entry.options (given (R.remaining devices.old.reader.now) asked.entry.seed (store_of (file_of asked.entry))) (W.contents devices.old.writer.now) (W.contents devices.new.writer.now) (Outcome.Played end)) }
     ensures writer { FlushesUnless W.failures W.waits devices.old.writer.now devices.new.writer.now (IsErrOf result (Problem.Failed Failure.Write)) }
     ensures reader { Blames (IsErrOf result (Problem.Failed Failure.Read)) (R.failures devices.old.reader.now) (R.failures devices.new.reader.now) }
 {
