@@ -157,6 +157,22 @@ def excused(program, count):
         count.is_answer(f"a fault {name}", program.run(LENIENT, {"story": made}), wanted)
 
 
+def taken_back(program, count):
+    """Lines that are taken back, as many as are kept, in the newest of as many frames as there may be, in as much dynamic memory as leaves room
+    for code. Behind each line the story prints a letter and reads the next one."""
+    room, buffer, parse = 64700, STATIC, STATIC + 300
+    place = CODE + room + 12
+    main = b"\xe0\x0f" + word(place // 2) + word(MOST - 1) + b"\x10" + b"\xe6\xbf\x10" + QUIT + b"\0"
+    called = b"\1\0\0" + b"\xa0\1\xcb" + b"\x96\1" + b"\xe0\x2f" + word(place // 2) + b"\1\0" + RET_POPPED
+    # `jump` back over twelve bytes counts from two bytes before its end (Z 4.7.2)
+    asked = b"\xe4\x0f" + word(buffer) + word(parse) + b"\xe5\x7f\x61" + b"\x8c" + word(65526)
+    made = changed(changed(story(main + called + asked, room=room), buffer, 20), parse, 2)
+    typed = b"x\n" * 150 + b"/undo\n" * 101
+    wanted = b"a" * 150 + b"[undone]\n\n>" * 100 + b"[nothing to undo]\n\n>"
+    answer = program.run(["play", "--commands", "story"], {"story": made}, typed=typed)
+    count.is_answer("100 of 150 lines taken back", answer, Answer(0, wanted, b"end: no input\n"))
+
+
 def most_callees(program, count):
     """A call by a word that may lead to each of 31,001 routines."""
     main = [b"\xe8\x3f\x03\xe8", (b"\xe0\xbf\x00\x00", interval(1000, 32000)), (PRINT_TOP, interval(1, 1)), QUIT]
@@ -535,6 +551,8 @@ GROWTH = [
     ("zref restore", "frames with their locals and stacks", deep_saves),
     ("zref restore", "dynamic memory", largest_save),
     ("zref excuse", "frames, and dynamic memory", excused),
+    ("zref keep", "frames, and memory", taken_back),
+    ("zref put_back", "frames, and memory", taken_back),
     ("zplay start", "bytes of memory", longest),
     ("zplay start", "frames that a session may have", deepest),
     ("zplay run", "instructions that were played", longest),
@@ -557,6 +575,7 @@ GROWTH = [
     ("zplayer play_leniently", "places of faults", excused),
     ("zplayer opened", "nothing: what is kept of faults takes memory with the first one", None),
     ("zplayer new", "nothing, as that", None),
+    ("zprompt play_prompted", "states of turns, each with its frames and memory", taken_back),
     ("zscreen render", "bytes and status lines of a turn", None),
     ("zinfo info", "what `list_story` grows by, which it calls", told_at_length),
     ("zinfo unplayed", "bytes of a story, and places that wait", unplayed_at_length),
