@@ -1,13 +1,13 @@
 //! The state of a machine as a value, and a machine that is put into another.
 
-ghost use Rattle.std.specs.Prelude.{◌≡◌, ◌<◌, IfOk, OnErr, OnOk};
+ghost use Rattle.std.specs.Prelude.{◌≡◌, ◌<◌, ◌≤◌, IfOk, OnErr, OnOk, false};
 ghost use Rattle.zquetzal.specs.declared.limits.TheConstants.{MOST_FRAMES};
 ghost use Rattle.zstate.specs.State.{IsState};
 ghost use Rattle.zmachine.specs.Parts.{IsInside};
-ghost use Rattle.zmachine.specs.Rows.{IsAsLoaded, Less};
+ghost use Rattle.zmachine.specs.Rows.{IsAsLoaded, Less, NeverFaults};
 
 use crate::advancing::judge;
-use crate::guard::Tested;
+use crate::guard::Guard;
 use crate::machine::{Machine, need_at};
 use crate::parts::parts_of;
 use crate::rows::Rows;
@@ -17,7 +17,7 @@ use std::alloc::{AllocError, Global};
 use zquetzal::{saves_are_read, write};
 use zstate::{State, saves_are_states};
 
-impl<'a, R: Rows> Machine<'a, R, Tested> {
+impl<'a, R: Rows, G: Guard> Machine<'a, R, G> {
     /// The state, at a place in memory, where a save has room for as many frames as there may be. Want of memory is the only error.
     pub fn state(&self, alloc: Global) -> Result<State, AllocError>
         requires few { (R.game self.now.rows).setting.limit < MOST_FRAMES }
@@ -45,9 +45,11 @@ impl<'a, R: Rows> Machine<'a, R, Tested> {
         requires state { IsState (R.game self.old.rows).setting.limit (R.game self.old.rows).setting.story state.now }
         requires loaded { IsAsLoaded (R.game self.old.rows).setting.story state.now.memory }
         requires inside { IsInside state.now }
+        requires able { G.TESTS ≡ false → NeverFaults (R.game self.old.rows).setting state.now }
         ensures play { (R.game self.new.rows).setting ≡ (R.game self.old.rows).setting }
         ensures ok { OnOk result (self.new.state ≡ state.now) }
         ensures same { OnErr result (self.new.state ≡ self.old.state) }
+        ensures words { self.old.words ≤ self.new.words }
         ensures less { Less (R.lacks self.old.rows) (R.lacks self.new.rows) }
     {
         let limit = self.rows.limit();

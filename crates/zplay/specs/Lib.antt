@@ -1,3 +1,4 @@
 pub mod Accepted
 pub mod Session
 pub mod Calls
+pub mod Keeping

@@ -35,8 +35,8 @@ use zstate::{RandomMode, Stop};
 /// law `moves_as_machine`.
 #[derive(Drop)]
 pub struct Session<'a, V: Spelled = Interval> {
-    accepted: &'a Accepted<V>,
-    machine: Machine<'a, StoryRows<'a>, Untested>,
+    pub(crate) accepted: &'a Accepted<V>,
+    pub(crate) machine: Machine<'a, StoryRows<'a>, Untested>,
 }
 
 impl<'a, V: Spelled> Model for Session<'a, V> {

@@ -14,7 +14,7 @@ use Rattle.zmachine.specs.Machine.{stands_in}
 use Rattle.zmachine.specs.Parts.{IsInside}
 use Rattle.zmachine.proofs.Stood.{is_saved, same_saved, taken_again}
 use Rattle.zmachine.proofs.Telling.{held_there, there_so}
-use Rattle.zmachine.proofs.placing.Machine+R+Tested.state.Goals as goal
+use Rattle.zmachine.proofs.machine.Machine.state.Goals as goal
 
 if_ok : {A E : Type 0} (r : Result A E) (P Q : A → Type 0) → ((x : A) → P x → Q x) → IfOk r P → IfOk r Q
 if_ok (Ok x) P Q f h = f x h
