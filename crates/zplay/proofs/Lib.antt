@@ -1,6 +1,7 @@
 pub mod Accepting
 pub mod Playing
 pub mod Resumed
+pub mod Keeping
 mod Giving
 mod Short
 mod Asked
