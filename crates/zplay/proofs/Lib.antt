@@ -1,7 +1,7 @@
 pub mod Accepting
 pub mod Playing
 pub mod Resumed
-pub mod Keeping
+pub mod Kept
 mod Giving
 mod Short
 mod Asked

@@ -1,4 +1,4 @@
-use Rattle.zplay.proofs.Keeping.{kept_of}
+use Rattle.zplay.proofs.Kept.{kept_of}
 use Rattle.zplay.proofs.Playing.{few, inside}
 use Rattle.zplay.proofs.session.Session.keep.Goals as goal
 

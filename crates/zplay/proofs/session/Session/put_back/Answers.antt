@@ -1,5 +1,5 @@
 use Rattle.std.proofs.Common.{sym}
-use Rattle.zplay.proofs.Keeping.{able_back, in_play_back, inside_back, loaded_back, state_back}
+use Rattle.zplay.proofs.Kept.{able_back, in_play_back, inside_back, loaded_back, state_back}
 use Rattle.zplay.proofs.Playing.{few}
 use Rattle.zplay.proofs.session.Session.put_back.Goals as goal
 
