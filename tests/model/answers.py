@@ -9,6 +9,7 @@ from instructions import Listing, NoInstruction, decode, line_of
 from lenient import LenientMachine
 from machine import Machine, Store
 from known import Known
+from prompting import PromptedMachine
 from rules import instruction_fault, judge
 from stories import Refused, Story, signed
 from wrapping import in_turns
@@ -169,7 +170,7 @@ def played(case, tally):
     tally.codes["played with marks" if certificate and certificate.marks else "played with a certificate"] += certificate is not None
     is_lenient = "--lenient" in options
     store = Store(case.files.get("saved"), None if is_lenient else certificate) if "--save" in options else None
-    kind = LenientMachine if is_lenient else Machine
+    kind = LenientMachine if is_lenient else PromptedMachine if "--commands" in options else Machine
     machine = kind(story, int(options.get("--seed", 1)), case.typed, "framed" if "--framed-status" in options else "--status" in options, store, tally.opcodes)
     machine.limit = certificate.limit if certificate and not is_lenient else machine.limit
     end = machine.run(int(options["--budget"]))
@@ -180,6 +181,8 @@ def played(case, tally):
     told = b"".join(b"save refused: %s\n" % it.encode() for it in machine.told) if "--tell" in options else b""
     if is_lenient:
         told += warnings_of(machine, tally)
+    elif "--commands" in options:
+        tally.codes.update(machine.commands)
     saved = store.contents if store else None
     output = machine.output
     if "--width" in options and "--plain" not in options:
@@ -206,7 +209,7 @@ def warnings_of(machine, tally):
 
 
 COMMANDS = {"list": listed, "check": checked, "play": played}
-FLAGS = {"--status", "--framed-status", "--tell", "--lenient", "--force", "--strict", "--places", "--plain", "--no-save"}
+FLAGS = {"--status", "--framed-status", "--tell", "--lenient", "--force", "--strict", "--places", "--plain", "--no-save", "--commands"}
 PLACE = rb"( at ([0-9a-f]{5}|-[0-9]+|[0-9]{7,}))?"  # as `at` tells it
 NONE_FOUND = re.compile(
     rb"refused: (?:G1\nbroken: (S[1-8])|(G[12])" + PLACE + rb"\n(no certificate: [SIU][0-9]{1,2}" + PLACE + rb"|not found))\n"

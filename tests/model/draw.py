@@ -18,6 +18,7 @@ from walking import Walk
 ROOT = os.path.join(os.path.dirname(os.path.abspath(__file__)), "../..")
 FOLDERS = ["crates/zpc/data", "tests/authors", "benches/stories"]
 LINES = [b"look", b"go north", b"take lamp, at", b"", b"  ", b"save", b"restore", b"quit", b"LOOK \xe9 at\r", b"n", b"x" * 300, b"\"at.\"", b"e", b"1"]
+TALK = [*[b"/undo"] * 12, b"/help", b"/", b"/Undo", b"/undo ", b"/save x", b"/quit"]
 POOL = 40  # stories with a certificate that is found, for each seed
 
 
@@ -76,11 +77,14 @@ class Drawer:
 
     def __init__(self, seed, program):
         self.seed, self.program, self.stories, self.pool = seed, program, repository(), {}
+        self.talking = [it for it in self.stories if asks(it)]
         self.forces = b"--force" in program.run(["play", "--help"]).output
 
     def case(self, number):
         draw = random.Random(f"{self.seed}-{number}")
         way = draw.random()
+        if way < 0.04:
+            return self.with_commands(draw)
         if way < 0.4:
             return self.with_certificate(draw) if way < 0.2 else self.walked(draw)
         if way < 0.55:
@@ -112,6 +116,20 @@ class Drawer:
         if draw.random() < 0.5:
             return spoiling.code_of(draw, made)
         return made if draw.random() < 0.1 else spoiling.bytes_of(draw, made, self.stories)
+
+    # ---- the player's own commands
+
+    def with_commands(self, draw):
+        """A play in which the player talks to the program between lines for the story."""
+        story, certificate = self.certified(draw.choice(self.talking)) if draw.random() < 0.8 else self.sound(draw)
+        lines = b"".join(draw.choice(TALK if draw.random() < 0.4 else LINES) + b"\n" for _ in range(draw.randint(1, 20)))
+        files, words = {"story": story}, [*lenience(draw, 0.1), "story"]
+        if draw.random() < 0.5:
+            files["certificate"], words = marked(draw, story, certificate) if draw.random() < 0.5 else certificate, [*words, "certificate"]
+        keeps = ["--tell", "--save", "saved"] if draw.random() < 0.5 else []
+        asked = options(draw)
+        asked[1] = str(draw.choice([40, 2000, 20000, 20000]))
+        return Case(["play", *asked, "--commands", *keeps, *words], files, lines)
 
     # ---- saves
 
@@ -181,6 +199,16 @@ class Drawer:
         except Refused:
             return Case(["list", "story"], {"story": story})
         return accepting(draw, story, certificate if draw.random() < 0.5 else spoiling.certificate_of(draw, certificate))
+
+
+def asks(story):
+    """Whether a story that is played with two lines asks for one more within so many steps."""
+    try:
+        machine = Machine(Story(story), 1, b"look\nlook\n")
+    except Refused:
+        return False
+    machine.run(400)
+    return len(machine.asked) > 2
 
 
 def unlisted(draw, story):

@@ -98,7 +98,7 @@ def lesser(case):
     if case.typed:
         yield Case(words, case.files)
         yield Case(words, case.files, case.typed.partition(b"\n")[0])
-    for option in ("--status", "--framed-status", "--tell", "--lenient", "--plain", "--no-save"):
+    for option in ("--status", "--framed-status", "--tell", "--lenient", "--plain", "--no-save", "--commands"):
         if option in words:
             yield Case([it for it in words if it != option], case.files, case.typed)
 
