@@ -1,16 +1,14 @@
 //! The states at earlier prompts, as many as are kept.
 
 ghost use Rattle.std.specs.Prelude.{◌≡◌, ◌∷◌, ◌++◌, [], None, All, IsTrue, option_to_list};
-ghost use Rattle.zref.specs.Keeping.{IsKeptOf};
-ghost use Rattle.zref.specs.Machine.{setting, SamePlay};
 ghost use Rattle.zprompt.specs.Commands.{Obeys};
 ghost use Rattle.zprompt.specs.Turns.{Keeps, room_of};
 
 use crate::answer::Answer;
 use crate::command::Command;
+use crate::machine::Promptable;
 use std::alloc::{AllocError, Global};
 use std::marker::Model;
-use zref::CheckedMachine;
 use zstate::State;
 
 /// How many prompts are kept at most.
@@ -51,10 +49,10 @@ impl Turns {
     }
 
     /// Keeps the state in which the machine stands, as the newest. Where memory for it is refused, none is kept, as if play began here.
-    pub(crate) fn keep(&mut self, alloc: Global, machine: &CheckedMachine)
-        requires { All (IsKeptOf (setting machine.now)) self.old }
-        ensures keeps { Keeps machine.now.state self.old self.new }
-        ensures all { All (IsKeptOf (setting machine.now)) self.new }
+    pub(crate) fn keep<M: Promptable>(&mut self, alloc: Global, machine: &M)
+        requires { All (M.IsKept machine.now) self.old }
+        ensures keeps { Keeps (M.state machine.now) self.old self.new }
+        ensures all { All (M.IsKept machine.now) self.new }
     {
         self.make_room();
         let Ok(Some(state)) = machine.keep(alloc) else {
@@ -83,11 +81,11 @@ impl Turns {
 }
 
 /// Puts the machine back into the newest of the states, which is kept no longer.
-pub(crate) fn undo(alloc: Global, machine: &mut CheckedMachine, turns: &mut Turns) -> Answer
-    requires { All (IsKeptOf (setting machine.old)) turns.old }
-    ensures play { SamePlay machine.old machine.new }
-    ensures all { All (IsKeptOf (setting machine.new)) turns.new }
-    ensures undone { Obeys Command.Undo result turns.old machine.old.state turns.new machine.new.state }
+pub(crate) fn undo<M: Promptable>(alloc: Global, machine: &mut M, turns: &mut Turns) -> Answer
+    requires { All (M.IsKept machine.old) turns.old }
+    ensures play { M.IsSamePlay machine.old machine.new }
+    ensures all { All (M.IsKept machine.new) turns.new }
+    ensures undone { Obeys Command.Undo result turns.old (M.state machine.old) turns.new (M.state machine.new) }
 {
     let Some(state) = turns.take() else {
         return Answer::NothingKept;

@@ -1,4 +1,4 @@
-use Rattle.std.proofs.Common.{◌≡◌, refl, rules, subst, List, ℕ}
+use Rattle.std.proofs.Common.{refl, rules, subst, List, ℕ}
 use Rattle.zfault.specs.Devices.{AppendsBeginning}
 use Rattle.zfault.proofs.DeviceLemmas.{AppendsBeginning-whole}
 use Rattle.zprompt.proofs.prompt.tell.Goals as goal
