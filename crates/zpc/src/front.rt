@@ -2,7 +2,6 @@
 
 use crate::asking::Asked;
 use crate::keeping::{open, open_again};
-use crate::prompting::perform_prompted;
 use crate::sources::{Undebugged, debug_info, refuse};
 use crate::terminal::{Shape, shape_of};
 use std::alloc::Global;
@@ -395,27 +394,16 @@ fn with_transcript<K: Write + Drop, F: Files, R: Source, W: Sink, E: Sink>(
     errors: &mut E,
 ) -> Ended {
     let mut reader = Recorded::new(lines, transcript.as_mut());
-    let status = if has_commands(context) {
-        perform_prompted(
-            context.rt.alloc(),
-            context.words,
-            speech_to(context.rt),
-            files,
-            &mut reader,
-            writer,
-            errors,
-        )
-    } else {
-        perform(
-            context.rt.alloc(),
-            context.words,
-            speech_to(context.rt),
-            files,
-            &mut reader,
-            writer,
-            errors,
-        )
-    };
+    let status = perform(
+        context.rt.alloc(),
+        context.words,
+        speech_to(context.rt),
+        has_commands(context),
+        files,
+        &mut reader,
+        writer,
+        errors,
+    );
     Ended {
         status,
         is_transcribed: reader.is_whole(),

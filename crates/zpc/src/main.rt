@@ -8,7 +8,6 @@ mod asking;
 mod front;
 mod keeping;
 mod manual;
-mod prompting;
 mod seed;
 mod sources;
 mod terminal;

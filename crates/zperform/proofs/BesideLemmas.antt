@@ -2,7 +2,7 @@
 use Rattle.std.proofs.Common.{◌≡◌, ◌≢◌, ◌⊎◌, inl, inr, ℕ, Bool, true, false, List, [], Option, None, Some, ap, refl, subst, sym}
 use Rattle.zquetzal.specs.declared.error.SaveError.{SaveError}
 use Rattle.zplayer.specs.World.{World}
-use Rattle.zplayer.specs.declared.end.Options.{Options}
+use Rattle.zprompt.specs.declared.manner.Manner.{Manner}
 use Rattle.zperform.specs.Accepting.{IsAcceptedStory, IsNoStory, IsUnacceptedStory, PlayComesTo}
 use Rattle.zperform.specs.Beside.{Absent, CountsUnread, IsUnused, PlaysBeside, Unsought, Unused, Used, is_failing, spared_beside, wants_memory}
 use Rattle.zperform.specs.Contents.{HasBytes}
@@ -70,23 +70,23 @@ unused_before files later story blame problem kept alike unused = record {
   blamed = unused.blamed;
 }
 
-module _ (files later : Held) (story : List ℕ) (save : Option (List ℕ)) (options : Options) (given : World) (before : Option (List ℕ)) where
+module _ (files later : Held) (story : List ℕ) (save : Option (List ℕ)) (manner : Manner) (given : World) (before : Option (List ℕ)) where
   -- nothing is played, and no certificate is looked for
-  pub not_played : (problem : Problem) → IsNoStory (files.known story) problem → (problem ≢ Failed File → later.failures ≡ files.failures) → PlaysBeside files later story save Unsought options given [] before before (Stopped problem)
+  pub not_played : (problem : Problem) → IsNoStory (files.known story) problem → (problem ≢ Failed File → later.failures ≡ files.failures) → PlaysBeside files later story save Unsought manner given [] before before (Stopped problem)
   not_played problem why unfailed = record { comes = (problem, refl, why, refl, refl); unfailed = λ _ _ other. unfailed (λ e. other (ap (λ (p : Problem). Stopped p) e)) }
 
   module _ (refusals : List SaveError) (now : Option (List ℕ)) (outcome : Outcome) where
     -- by the certificate
-    pub plays_used : (a : AcceptedStory) → IsAcceptedStory (files.known story) (files.known (name_of_certificate story)) a → PlayComesTo (files.known story) (files.known (name_of_certificate story)) options given refusals before now outcome
-        → (save ≡ None → later.failures ≡ files.failures) → PlaysBeside files later story save Used options given refusals before now outcome
+    pub plays_used : (a : AcceptedStory) → IsAcceptedStory (files.known story) (files.known (name_of_certificate story)) a → PlayComesTo (files.known story) (files.known (name_of_certificate story)) manner given refusals before now outcome
+        → (save ≡ None → later.failures ≡ files.failures) → PlaysBeside files later story save Used manner given refusals before now outcome
     plays_used a accepted comes unfailed = record { comes = ((a, accepted), comes); unfailed = λ _ none _. unfailed none }
 
     -- with none there
-    pub plays_absent : files.known (name_of_certificate story) ≡ None → ComesTo (files.known story) options given refusals before now outcome → (save ≡ None → later.failures ≡ files.failures)
-        → PlaysBeside files later story save Absent options given refusals before now outcome
+    pub plays_absent : files.known (name_of_certificate story) ≡ None → ComesTo (files.known story) manner given refusals before now outcome → (save ≡ None → later.failures ≡ files.failures)
+        → PlaysBeside files later story save Absent manner given refusals before now outcome
     plays_absent absent comes unfailed = record { comes = (absent, comes); unfailed = λ _ none _. unfailed none }
 
     -- with one that isn't used
-    pub plays_unused : (blame : Option Blame) (problem : Problem) → IsUnused files story blame problem → ComesTo (files.known story) options given refusals before now outcome
-        → (is_failing (Unused blame problem) ≡ false → save ≡ None → later.failures ≡ files.failures) → PlaysBeside files later story save (Unused blame problem) options given refusals before now outcome
+    pub plays_unused : (blame : Option Blame) (problem : Problem) → IsUnused files story blame problem → ComesTo (files.known story) manner given refusals before now outcome
+        → (is_failing (Unused blame problem) ≡ false → save ≡ None → later.failures ≡ files.failures) → PlaysBeside files later story save (Unused blame problem) manner given refusals before now outcome
     plays_unused blame problem unused comes unfailed = record { comes = (unused, comes); unfailed = λ still none _. unfailed still none }

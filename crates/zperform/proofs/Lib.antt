@@ -1,7 +1,6 @@
 mod FileLemmas
 mod StoryFiles
 mod PlayLemmas
-mod PromptLemmas
 mod PerformLemmas
 mod AcceptLemmas
 mod FeedLemmas
@@ -19,6 +18,7 @@ mod UnpackLemmas
 mod ExcusingLemmas
 mod Joined
 mod LineLemmas
+mod WrittenLemmas
 mod Worked
 mod WorkedClaims
 mod WorkedExcusing

@@ -14,12 +14,13 @@ use Rattle.zcheck.specs.declared.judged.Judged.TheVariants.{Whole, Marked}
 use Rattle.zref.specs.Machine.{Machine, setting}
 use Rattle.zref.specs.declared.scope.Scope.TheVariants.{Within}
 use Rattle.zplayer.specs.declared.end.End.{End}
-use Rattle.zplayer.specs.declared.end.Options.{Options}
+use Rattle.zprompt.specs.declared.manner.Manner.{Manner}
 use Rattle.zplayer.specs.declared.end.PlayError.{PlayError}
 use Rattle.zplayer.specs.declared.end.PlayError.TheVariants as errors
 use Rattle.zplayer.specs.Leniently.{Noted}
 use Rattle.zplayer.specs.Outside.{Coming}
-use Rattle.zplayer.specs.Playing.{WantsOrSaves, ComesTo as PlayComes}
+use Rattle.zplayer.specs.Playing.{WantsOrSaves}
+use Rattle.zprompt.specs.Manners.{ComesTo as PlayComes}
 use Rattle.zplayer.specs.World.{Store, World}
 use Rattle.zperform.specs.declared.outcome.Outcome.{Outcome}
 use Rattle.zperform.specs.declared.outcome.Outcome.TheVariants.{Played, Stopped}
@@ -45,24 +46,24 @@ module _ {V : Type 0} (o : SetOperations V) (format : Format V) (story certifica
   unopened m marked = story_bytes story m.story marked.story
 
   -- what is said of a play of what is accepted is said of both files
-  pub ends_of : (options : Options) (noted : Noted) (given : World) (refusals : List SaveError) (before now : Option (List ℕ)) (outcome : Outcome) (j : JudgedOver V) → IsJudgedOf o format story certificate j
-      → ComesOfEither (λ (a : AcceptanceOver V) (options : Options) (noted : Noted) given refusals before now outcome. (story certificate : Option (List ℕ)) → IsAccepted o format story certificate a → PlayEnds o format story certificate options given refusals before now outcome)
-      (λ (m : MarkedOver V) (options : Options) (noted : Noted) given refusals before now outcome. (story certificate : Option (List ℕ)) → IsMarkedOf o format story certificate m → PlayEnds o format story certificate options given refusals before now outcome) j options noted given refusals before now outcome
-      → PlayEnds o format story certificate options given refusals before now outcome
-  ends_of options noted given refusals before now outcome (Whole a) accepted comes = comes story certificate accepted
-  ends_of options noted given refusals before now outcome (Marked m) marked comes = comes story certificate marked
+  pub ends_of : (manner : Manner) (noted : Noted) (given : World) (refusals : List SaveError) (before now : Option (List ℕ)) (outcome : Outcome) (j : JudgedOver V) → IsJudgedOf o format story certificate j
+      → ComesOfEither (λ (a : AcceptanceOver V) (manner : Manner) (noted : Noted) given refusals before now outcome. (story certificate : Option (List ℕ)) → IsAccepted o format story certificate a → PlayEnds o format story certificate manner given refusals before now outcome)
+      (λ (m : MarkedOver V) (manner : Manner) (noted : Noted) given refusals before now outcome. (story certificate : Option (List ℕ)) → IsMarkedOf o format story certificate m → PlayEnds o format story certificate manner given refusals before now outcome) j manner noted given refusals before now outcome
+      → PlayEnds o format story certificate manner given refusals before now outcome
+  ends_of manner noted given refusals before now outcome (Whole a) accepted comes = comes story certificate accepted
+  ends_of manner noted given refusals before now outcome (Marked m) marked comes = comes story certificate marked
 
   -- a machine that was made
-  module _ (options : Options) (given : World) (refusals : List SaveError) (before : Option (List ℕ)) (m : MarkedOver V) (marked : IsMarkedOf o format story certificate m) (machine : Machine) (opened : machine ≡ record { story = m.story; scope = Within (frame_limit m.certificate); state = opening m.story }) (now : Option (List ℕ)) (state : State) (words : Option Coming) (store : Store) (unsaved : StaysEmpty given.store store) (refused : store.refusals ≡ refusals) where
-    by : (result : Result End PlayError) → PlayComes (setting machine) (λ _. ⊤) (WantsOrSaves (setting machine)) options given machine.state state words store before now result
-        → Marks o format story certificate (λ m. IsPlayedMarked m options given refusals before now result)
+  module _ (manner : Manner) (given : World) (refusals : List SaveError) (before : Option (List ℕ)) (m : MarkedOver V) (marked : IsMarkedOf o format story certificate m) (machine : Machine) (opened : machine ≡ record { story = m.story; scope = Within (frame_limit m.certificate); state = opening m.story }) (now : Option (List ℕ)) (state : State) (words : Option Coming) (store : Store) (unsaved : StaysEmpty given.store store) (refused : store.refusals ≡ refusals) where
+    by : (result : Result End PlayError) → PlayComes (setting machine) (λ _. ⊤) (WantsOrSaves (setting machine)) manner given machine.state state words store before now result
+        → Marks o format story certificate (λ m. IsPlayedMarked m manner given refusals before now result)
     by result comes =
-        (m, marked, record { state = state; words = words; store = store; comes = subst (λ (x : Machine). PlayComes (setting x) (λ _. ⊤) (WantsOrSaves (setting x)) options given x.state state words store before now result) opened comes; unsaved = unsaved; refused = refused })
+        (m, marked, record { state = state; words = words; store = store; comes = subst (λ (x : Machine). PlayComes (setting x) (λ _. ⊤) (WantsOrSaves (setting x)) manner given x.state state words store before now result) opened comes; unsaved = unsaved; refused = refused })
 
-    pub played : (end : End) → PlayComes (setting machine) (λ _. ⊤) (WantsOrSaves (setting machine)) options given machine.state state words store before now (Ok end) → PlayEnds o format story certificate options given refusals before now (Played end)
+    pub played : (end : End) → PlayComes (setting machine) (λ _. ⊤) (WantsOrSaves (setting machine)) manner given machine.state state words store before now (Ok end) → PlayEnds o format story certificate manner given refusals before now (Played end)
     played end comes = inr (by (Ok end) comes)
 
-    pub broken : (error : PlayError) → PlayComes (setting machine) (λ _. ⊤) (WantsOrSaves (setting machine)) options given machine.state state words store before now (Err error) → PlayEnds o format story certificate options given refusals before now (Stopped (problem_of_play error))
+    pub broken : (error : PlayError) → PlayComes (setting machine) (λ _. ⊤) (WantsOrSaves (setting machine)) manner given machine.state state words store before now (Err error) → PlayEnds o format story certificate manner given refusals before now (Stopped (problem_of_play error))
     broken errors.Read comes = inr (by (Err errors.Read) comes)
     broken errors.Write comes = inr (by (Err errors.Write) comes)
     broken errors.OutOfMemory comes = inr (inr (by (Err errors.OutOfMemory) comes))

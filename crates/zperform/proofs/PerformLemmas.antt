@@ -24,9 +24,9 @@ stopped_is (Ok end) problem e = absurd cc
 stopped_is (Err q) problem e = ap Err (let same : q ≡ problem = cc in same)
 
 -- with no fault in the words, only memory can be wanting
-pub performs_lacking : (words : List Text) (speech : Speech) (status : ℕ) (old new : Devices) → fault_of zpc_app words ≡ [] → Explains (fault_of zpc_app words) status old new → Performs words speech status old new
-performs_lacking words speech status old new none (inl lacks) = inr lacks
-performs_lacking words speech status old new none (inr told) = absurd (subst (IsAmong told.0) none told.2)
+pub performs_lacking : (words : List Text) (speech : Speech) (commands : Bool) (status : ℕ) (old new : Devices) → fault_of zpc_app words ≡ [] → Explains (fault_of zpc_app words) status old new → Performs words speech commands status old new
+performs_lacking words speech commands status old new none (inl lacks) = inr lacks
+performs_lacking words speech commands status old new none (inr told) = absurd (subst (IsAmong told.0) none told.2)
 
 -- a play fails just where its outcome tells it
 pub as_outcome : (r : Result End Problem) (outcome : Outcome) (problem : Problem) (old new : ℕ) → outcome ≡ outcome_of r → Blames (IsErrOf r problem) old new → Blames (outcome ≡ Stopped problem) old new
@@ -57,16 +57,16 @@ writer_as_seen contents failures waits old new fails writer = record { blamed = 
     flushed (inl none) = inl none
     flushed (inr same) = inr (ap (seen contents failures waits) same)
 
-module _ (words : List Text) (speech : Speech) (status : ℕ) (old new : Devices) (outcome : Outcome)
+module _ (words : List Text) (speech : Speech) (commands : Bool) (status : ℕ) (old new : Devices) (outcome : Outcome)
     (writer : FlushesUnless (λ (s : Seen). s.failures) (λ (s : Seen). s.waits) old.writer new.writer (outcome ≡ Stopped (Failed Write)))
     (reader : Blames (outcome ≡ Stopped (Failed Read)) old.reader.failures new.reader.failures)
     (between : Seen) (reported : Reports speech new.files.blamed outcome status between new.errors) where
   pub performs_request : (asked request : Request) → request ≡ spoken speech asked → (aside : Aside) (refusals : List SaveError) → SaysFor request aside refusals old.errors between → (is_each request ≡ false → UsesUnless (λ (f : Held). f.known) (λ (f : Held). f.failures) old.files new.files (spared_in request) (written_by request) (outcome ≡ Stopped (Failed File))) → (outcome ≡ Stopped (Failed File) → IsBlamed request old.files) → (outcome ≡ Stopped (Failed File) → IsToldOf request new.files.blamed)
-      → (is_quiet request ≡ true → new.reader ≡ old.reader) → Begins request old.files new.files old.reader.remaining aside refusals old.writer.contents new.writer.contents outcome → IsSomeAnd (subcommand_of zpc_app words) (λ matches. Asks matches asked)
-      → Performs words speech status old new
+      → (is_quiet request ≡ true → new.reader ≡ old.reader) → Begins commands request old.files new.files old.reader.remaining aside refusals old.writer.contents new.writer.contents outcome → IsSomeAnd (subcommand_of zpc_app words) (λ matches. Asks matches asked)
+      → Performs words speech commands status old new
   performs_request asked request is_spoken aside refusals told files could blamed unasked comes read = go (subcommand_of zpc_app words) refl read
     where
-      go : (o : Option (Text × List Row)) → subcommand_of zpc_app words ≡ o → IsSomeAnd o (λ matches. Asks matches asked) → Performs words speech status old new
+      go : (o : Option (Text × List Row)) → subcommand_of zpc_app words ≡ o → IsSomeAnd o (λ matches. Asks matches asked) → Performs words speech commands status old new
       go None e h = absurd h
       go (Some matches) e asks =
           inl (record { matches = matches; named = e; asked = asked; asks = asks; request = request; is_spoken = is_spoken; outcome = outcome; comes = comes; writer = writer; files = files; could = could; blamed = blamed; reader = reader; unasked = unasked; aside = aside; refusals = refusals; between = between; told = told; reported = reported })

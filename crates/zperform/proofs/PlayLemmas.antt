@@ -10,10 +10,11 @@ use Rattle.zstate.specs.State.{State, opening}
 use Rattle.zref.specs.Machine.{Machine, setting}
 use Rattle.zref.specs.declared.scope.Scope.TheVariants.{All}
 use Rattle.zplayer.specs.declared.end.End.{End}
-use Rattle.zplayer.specs.declared.end.Options.{Options}
+use Rattle.zprompt.specs.declared.manner.Manner.{Manner}
 use Rattle.zplayer.specs.declared.end.PlayError.{PlayError}
 use Rattle.zplayer.specs.declared.end.PlayError.TheVariants as errors
-use Rattle.zplayer.specs.Playing.{WantsOrSaves, ComesTo as PlayComes}
+use Rattle.zplayer.specs.Playing.{WantsOrSaves}
+use Rattle.zprompt.specs.Manners.{ComesTo as PlayComes}
 use Rattle.zplayer.specs.Outside.{Coming, words_from}
 use Rattle.zplayer.specs.World.{Kept, Store, World, world}
 use Rattle.zperform.specs.declared.outcome.Failure.TheVariants.{File, Read, Write, Memory}
@@ -47,16 +48,16 @@ pub with_store : (P : Store → Type 0) (kept : Option Kept) (n : ℕ) → n ≡
 with_store P kept n none h = subst (λ (k : ℕ). P (record { kept = kept; failures = k; refusals = [] })) none h
 
 -- what the part that was read comes to, the file comes to
-module _ (known : Option (List ℕ)) (taken : List ℕ) (options : Options) (given : World) (refusals : List SaveError) (before now : Option (List ℕ)) (part : (file : List ℕ) → known ≡ Some file → taken ≡ take 131073 file) where
+module _ (known : Option (List ℕ)) (taken : List ℕ) (manner : Manner) (given : World) (refusals : List SaveError) (before now : Option (List ℕ)) (part : (file : List ℕ) → known ≡ Some file → taken ≡ take 131073 file) where
   along : (P : List ℕ → Type 0) → ((file : List ℕ) → taken ≡ take 131073 file → P taken → P file) → Reads (Some taken) P → Reads known P
   along P step (file, same, holds) = reads known 131073 taken P part step (subst P same holds)
 
-  played_along : (result : Result End PlayError) → Reads (Some taken) (λ file. IsPlayed file options given refusals before now result) → Reads known (λ file. IsPlayed file options given refusals before now result)
+  played_along : (result : Result End PlayError) → Reads (Some taken) (λ file. IsPlayed file manner given refusals before now result) → Reads known (λ file. IsPlayed file manner given refusals before now result)
   played_along result h =
-      along (λ file. IsPlayed file options given refusals before now result)
+      along (λ file. IsPlayed file manner given refusals before now result)
       (λ file e p. record { story = p.story; holds = holds_whole 131073 taken file (omega arith) e p.story p.holds; state = p.state; words = p.words; store = p.store; comes = p.comes; unsaved = p.unsaved; refused = p.refused }) h
 
-  pub of_part : (outcome : Outcome) → ComesTo (Some taken) options given refusals before now outcome → ComesTo known options given refusals before now outcome
+  pub of_part : (outcome : Outcome) → ComesTo (Some taken) manner given refusals before now outcome → ComesTo known manner given refusals before now outcome
   of_part (Played end) h = played_along (Ok end) h
   of_part (Stopped (Refused error)) (h, same, none) = (along (λ file. IsRefused file error) (λ file e p. refused_whole 131073 taken file (omega arith) e error p) h, same, none)
   of_part Listed h = h
@@ -84,10 +85,10 @@ module _ (known : Option (List ℕ)) (taken : List ℕ) (options : Options) (giv
   of_part (Stopped (Failed Memory)) (inr h) = inr (played_along (Err errors.OutOfMemory) h)
 
 -- a file that couldn't be read
-pub unread : (known : Option (List ℕ)) (options : Options) (given : World) (before : Option (List ℕ)) (problem : Problem) → (problem ≡ Failed File) ⊎ (problem ≡ Failed Memory) → (problem ≡ Failed Memory → HasBytes known)
-    → ComesTo known options given [] before before (Stopped problem)
-unread known options given before problem (inl e) wanted = subst (λ (x : Problem). ComesTo known options given [] before before (Stopped x)) (sym e) (refl, refl)
-unread known options given before problem (inr e) wanted = subst (λ (x : Problem). ComesTo known options given [] before before (Stopped x)) (sym e) (inl (refl, refl, wanted e))
+pub unread : (known : Option (List ℕ)) (manner : Manner) (given : World) (before : Option (List ℕ)) (problem : Problem) → (problem ≡ Failed File) ⊎ (problem ≡ Failed Memory) → (problem ≡ Failed Memory → HasBytes known)
+    → ComesTo known manner given [] before before (Stopped problem)
+unread known manner given before problem (inl e) wanted = subst (λ (x : Problem). ComesTo known manner given [] before before (Stopped x)) (sym e) (refl, refl)
+unread known manner given before problem (inr e) wanted = subst (λ (x : Problem). ComesTo known manner given [] before before (Stopped x)) (sym e) (inl (refl, refl, wanted e))
 
 -- a file that isn't loaded
 pub unloaded : (file : List ℕ) (error : LoadError) → IsLowest (IsCause file) error → IsUnloaded file (problem_of_load error)
@@ -104,38 +105,38 @@ unloaded file DictionaryOrder h = record { lowest = h; of_file = λ e. cc }
 unloaded file FirstInstruction h = record { lowest = h; of_file = λ e. cc }
 unloaded file OutOfMemory h = h.1
 
-pub unloaded_comes : (file : List ℕ) (options : Options) (given : World) (before : Option (List ℕ)) (problem : Problem) → IsUnloaded file problem → ComesTo (Some file) options given [] before before (Stopped problem)
-unloaded_comes file options given before (Refused error) h = ((file, refl, h), refl, refl)
-unloaded_comes file options given before (Unreadable error) h = absurd h
-unloaded_comes file options given before (BreaksStory rule) h = absurd h
-unloaded_comes file options given before (BreaksInstruction address rule) h = absurd h
-unloaded_comes file options given before (Unlisted error) h = absurd h
-unloaded_comes file options given before (Unfound error broken) h = absurd h
-unloaded_comes file options given before (Occupied purpose) h = absurd h
-unloaded_comes file options given before (Packed error) h = absurd h
-unloaded_comes file options given before (Failed File) h = absurd h
-unloaded_comes file options given before (Failed Read) h = absurd h
-unloaded_comes file options given before (Failed Write) h = absurd h
-unloaded_comes file options given before (Failed Memory) h = inl (refl, refl, sound_bytes file h)
+pub unloaded_comes : (file : List ℕ) (manner : Manner) (given : World) (before : Option (List ℕ)) (problem : Problem) → IsUnloaded file problem → ComesTo (Some file) manner given [] before before (Stopped problem)
+unloaded_comes file manner given before (Refused error) h = ((file, refl, h), refl, refl)
+unloaded_comes file manner given before (Unreadable error) h = absurd h
+unloaded_comes file manner given before (BreaksStory rule) h = absurd h
+unloaded_comes file manner given before (BreaksInstruction address rule) h = absurd h
+unloaded_comes file manner given before (Unlisted error) h = absurd h
+unloaded_comes file manner given before (Unfound error broken) h = absurd h
+unloaded_comes file manner given before (Occupied purpose) h = absurd h
+unloaded_comes file manner given before (Packed error) h = absurd h
+unloaded_comes file manner given before (Failed File) h = absurd h
+unloaded_comes file manner given before (Failed Read) h = absurd h
+unloaded_comes file manner given before (Failed Write) h = absurd h
+unloaded_comes file manner given before (Failed Memory) h = inl (refl, refl, sound_bytes file h)
 
 -- a problem that is handed on
-pub passed_on : (known : Option (List ℕ)) (options : Options) (given : World) (refusals : List SaveError) (before now : Option (List ℕ)) (r : Result End Problem) (problem : Problem) → IsErr r × IsErrAnd r (λ q. q ≡ problem)
-    → ComesTo known options given refusals before now (Stopped problem) → ComesTo known options given refusals before now (outcome_of r)
-passed_on known options given refusals before now (Ok end) problem (is, same) h = absurd (true≢false (sym is))
-passed_on known options given refusals before now (Err q) problem (is, same) h = subst (λ (x : Problem). ComesTo known options given refusals before now (Stopped x)) (sym same) h
+pub passed_on : (known : Option (List ℕ)) (manner : Manner) (given : World) (refusals : List SaveError) (before now : Option (List ℕ)) (r : Result End Problem) (problem : Problem) → IsErr r × IsErrAnd r (λ q. q ≡ problem)
+    → ComesTo known manner given refusals before now (Stopped problem) → ComesTo known manner given refusals before now (outcome_of r)
+passed_on known manner given refusals before now (Ok end) problem (is, same) h = absurd (true≢false (sym is))
+passed_on known manner given refusals before now (Err q) problem (is, same) h = subst (λ (x : Problem). ComesTo known manner given refusals before now (Stopped x)) (sym same) h
 
 -- a story that was loaded from a file is played
-module _ (file : List ℕ) (story : LoadedStory) (holds : Holds file story) (options : Options) (m : Machine) (opened : m ≡ record { story = story; scope = All; state = opening story }) (given : World) (before now : Option (List ℕ)) (state : State) (words : Option Coming) (store : Store) (unsaved : StaysEmpty given.store store) (refusals : List SaveError) (refused : store.refusals ≡ refusals) where
-  played : (result : Result End PlayError) → PlayComes (setting m) (λ _. ⊤) (WantsOrSaves (setting m)) options given m.state state words store before now result → Reads (Some file) (λ file. IsPlayed file options given refusals before now result)
+module _ (file : List ℕ) (story : LoadedStory) (holds : Holds file story) (manner : Manner) (m : Machine) (opened : m ≡ record { story = story; scope = All; state = opening story }) (given : World) (before now : Option (List ℕ)) (state : State) (words : Option Coming) (store : Store) (unsaved : StaysEmpty given.store store) (refusals : List SaveError) (refused : store.refusals ≡ refusals) where
+  played : (result : Result End PlayError) → PlayComes (setting m) (λ _. ⊤) (WantsOrSaves (setting m)) manner given m.state state words store before now result → Reads (Some file) (λ file. IsPlayed file manner given refusals before now result)
   played result comes =
-      (file, refl, record { story = story; holds = holds; state = state; words = words; store = store; comes = subst (λ (x : Machine). PlayComes (setting x) (λ _. ⊤) (WantsOrSaves (setting x)) options given x.state state words store before now result) opened comes; unsaved = unsaved; refused = refused })
+      (file, refl, record { story = story; holds = holds; state = state; words = words; store = store; comes = subst (λ (x : Machine). PlayComes (setting x) (λ _. ⊤) (WantsOrSaves (setting x)) manner given x.state state words store before now result) opened comes; unsaved = unsaved; refused = refused })
 
   -- to its end
-  pub ended : (end : End) → PlayComes (setting m) (λ _. ⊤) (WantsOrSaves (setting m)) options given m.state state words store before now (Ok end) → ComesTo (Some file) options given refusals before now (Played end)
+  pub ended : (end : End) → PlayComes (setting m) (λ _. ⊤) (WantsOrSaves (setting m)) manner given m.state state words store before now (Ok end) → ComesTo (Some file) manner given refusals before now (Played end)
   ended end comes = played (Ok end) comes
 
   -- or it broke off
-  pub broken : (error : PlayError) → PlayComes (setting m) (λ _. ⊤) (WantsOrSaves (setting m)) options given m.state state words store before now (Err error) → ComesTo (Some file) options given refusals before now (Stopped (problem_of_play error))
+  pub broken : (error : PlayError) → PlayComes (setting m) (λ _. ⊤) (WantsOrSaves (setting m)) manner given m.state state words store before now (Err error) → ComesTo (Some file) manner given refusals before now (Stopped (problem_of_play error))
   broken errors.Read comes = played (Err errors.Read) comes
   broken errors.Write comes = played (Err errors.Write) comes
   broken errors.OutOfMemory comes = inr (played (Err errors.OutOfMemory) comes)

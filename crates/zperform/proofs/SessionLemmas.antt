@@ -10,11 +10,12 @@ use Rattle.zcheck.specs.Acceptance.{AcceptanceOver}
 use Rattle.zplay.specs.Session.{PlayingOver, setting_of}
 use Rattle.zplayer.specs.declared.end.End.{End}
 use Rattle.zplayer.specs.declared.end.End.TheVariants as ends
-use Rattle.zplayer.specs.declared.end.Options.{Options}
+use Rattle.zprompt.specs.declared.manner.Manner.{Manner}
 use Rattle.zplayer.specs.declared.end.PlayError.{PlayError}
 use Rattle.zplayer.specs.declared.end.PlayError.TheVariants as errors
 use Rattle.zplayer.specs.Outside.{Blames, BlamesWriter, Coming}
-use Rattle.zplayer.specs.Playing.{GivesOrSaves, ComesTo as PlayComes}
+use Rattle.zplayer.specs.Playing.{GivesOrSaves}
+use Rattle.zprompt.specs.Manners.{ComesTo as PlayComes}
 use Rattle.zplayer.specs.Stories.{Describes}
 use Rattle.zplayer.specs.World.{Store, World}
 use Rattle.zperform.specs.declared.outcome.Failure.{Failure}
@@ -104,36 +105,36 @@ module _ {V : Type 0} (o : SetOperations V) (format : Format V) (story certifica
   blameless (Failed Write) h = absurd h
 
   -- what isn't accepted isn't played, and no save is refused
-  unplayed_with : (options : Options) (given : World) (before : Option (List ℕ)) (problem : Problem) → IsUnaccepted o format story certificate problem → PlayEnds o format story certificate options given [] before before (Stopped problem)
-  unplayed_with options given before (Refused error) h = (h, refl, refl)
-  unplayed_with options given before (Unreadable error) h = (h, refl, refl)
-  unplayed_with options given before (BreaksStory rule) h = (h, refl, refl)
-  unplayed_with options given before (BreaksInstruction address rule) h = (h, refl, refl)
-  unplayed_with options given before (Unlisted error) h = absurd h
-  unplayed_with options given before (Unfound error broken) h = absurd h
-  unplayed_with options given before (Occupied purpose) h = absurd h
-  unplayed_with options given before (Packed error) h = absurd h
-  unplayed_with options given before (Failed File) h = (h, refl, refl)
-  unplayed_with options given before (Failed Memory) h = inl (refl, refl, h)
-  unplayed_with options given before (Failed Read) h = absurd h
-  unplayed_with options given before (Failed Write) h = absurd h
+  unplayed_with : (manner : Manner) (given : World) (before : Option (List ℕ)) (problem : Problem) → IsUnaccepted o format story certificate problem → PlayEnds o format story certificate manner given [] before before (Stopped problem)
+  unplayed_with manner given before (Refused error) h = (h, refl, refl)
+  unplayed_with manner given before (Unreadable error) h = (h, refl, refl)
+  unplayed_with manner given before (BreaksStory rule) h = (h, refl, refl)
+  unplayed_with manner given before (BreaksInstruction address rule) h = (h, refl, refl)
+  unplayed_with manner given before (Unlisted error) h = absurd h
+  unplayed_with manner given before (Unfound error broken) h = absurd h
+  unplayed_with manner given before (Occupied purpose) h = absurd h
+  unplayed_with manner given before (Packed error) h = absurd h
+  unplayed_with manner given before (Failed File) h = (h, refl, refl)
+  unplayed_with manner given before (Failed Memory) h = inl (refl, refl, h)
+  unplayed_with manner given before (Failed Read) h = absurd h
+  unplayed_with manner given before (Failed Write) h = absurd h
 
   -- memory for the session was refused
   pub unopened : (a : AcceptanceOver V) → IsAccepted o format story certificate a → HasBytes story
   unopened a accepted = story_bytes story a.story accepted.story
 
   -- a session that opened
-  module _ (options : Options) (given : World) (refusals : List SaveError) (before : Option (List ℕ)) (a : AcceptanceOver V) (accepted : IsAccepted o format story certificate a) (p : PlayingOver V) (opened : p ≡ record { accepted = a; state = opening a.story }) (now : Option (List ℕ)) (state : State) (words : Option Coming) (store : Store) (unsaved : StaysEmpty given.store store) (refused : store.refusals ≡ refusals) where
-    by : (result : Result End PlayError) → PlayComes (setting_of p.accepted) (Describes o p.accepted) (GivesOrSaves (setting_of p.accepted)) options given p.state state words store before now result → IfOk result (λ end. (fault : Fault) (place : ℤ) → end ≢ ends.Fault fault place)
-        → Accepts o format story certificate (λ a. IsPlayedBy o a options given refusals before now result)
+  module _ (manner : Manner) (given : World) (refusals : List SaveError) (before : Option (List ℕ)) (a : AcceptanceOver V) (accepted : IsAccepted o format story certificate a) (p : PlayingOver V) (opened : p ≡ record { accepted = a; state = opening a.story }) (now : Option (List ℕ)) (state : State) (words : Option Coming) (store : Store) (unsaved : StaysEmpty given.store store) (refused : store.refusals ≡ refusals) where
+    by : (result : Result End PlayError) → PlayComes (setting_of p.accepted) (Describes o p.accepted) (GivesOrSaves (setting_of p.accepted)) manner given p.state state words store before now result → IfOk result (λ end. (fault : Fault) (place : ℤ) → end ≢ ends.Fault fault place)
+        → Accepts o format story certificate (λ a. IsPlayedBy o a manner given refusals before now result)
     by result comes safe =
-        (a, accepted, record { state = state; words = words; store = store; comes = subst (λ (q : PlayingOver V). PlayComes (setting_of q.accepted) (Describes o q.accepted) (GivesOrSaves (setting_of q.accepted)) options given q.state state words store before now result) opened comes; unsaved = unsaved; refused = refused; safe = safe })
+        (a, accepted, record { state = state; words = words; store = store; comes = subst (λ (q : PlayingOver V). PlayComes (setting_of q.accepted) (Describes o q.accepted) (GivesOrSaves (setting_of q.accepted)) manner given q.state state words store before now result) opened comes; unsaved = unsaved; refused = refused; safe = safe })
 
-    pub played : (end : End) → PlayComes (setting_of p.accepted) (Describes o p.accepted) (GivesOrSaves (setting_of p.accepted)) options given p.state state words store before now (Ok end) → ((fault : Fault) (place : ℤ) → end ≢ ends.Fault fault place)
-        → PlayEnds o format story certificate options given refusals before now (Played end)
+    pub played : (end : End) → PlayComes (setting_of p.accepted) (Describes o p.accepted) (GivesOrSaves (setting_of p.accepted)) manner given p.state state words store before now (Ok end) → ((fault : Fault) (place : ℤ) → end ≢ ends.Fault fault place)
+        → PlayEnds o format story certificate manner given refusals before now (Played end)
     played end comes safe = inl (by (Ok end) comes safe)
 
-    pub broken : (error : PlayError) → PlayComes (setting_of p.accepted) (Describes o p.accepted) (GivesOrSaves (setting_of p.accepted)) options given p.state state words store before now (Err error) → PlayEnds o format story certificate options given refusals before now (Stopped (problem_of_play error))
+    pub broken : (error : PlayError) → PlayComes (setting_of p.accepted) (Describes o p.accepted) (GivesOrSaves (setting_of p.accepted)) manner given p.state state words store before now (Err error) → PlayEnds o format story certificate manner given refusals before now (Stopped (problem_of_play error))
     broken errors.Read comes = inl (by (Err errors.Read) comes tt)
     broken errors.Write comes = inl (by (Err errors.Write) comes tt)
     broken errors.OutOfMemory comes = inr (inl (by (Err errors.OutOfMemory) comes tt))
@@ -144,6 +145,6 @@ module _ (story certificate : Option (List ℕ)) where
   unblamed problem (inl h) = blameless _ _ story certificate problem h
   unblamed problem (inr h) = blameless _ _ story certificate problem h
 
-  pub unplayed : (options : Options) (given : World) (before : Option (List ℕ)) (problem : Problem) → IsUnacceptedStory story certificate problem → PlayComesTo story certificate options given [] before before (Stopped problem)
-  unplayed options given before problem (inl h) = inl (unplayed_with _ _ story certificate options given before problem h)
-  unplayed options given before problem (inr h) = inr (unplayed_with _ _ story certificate options given before problem h)
+  pub unplayed : (manner : Manner) (given : World) (before : Option (List ℕ)) (problem : Problem) → IsUnacceptedStory story certificate problem → PlayComesTo story certificate manner given [] before before (Stopped problem)
+  unplayed manner given before problem (inl h) = inl (unplayed_with _ _ story certificate manner given before problem h)
+  unplayed manner given before problem (inr h) = inr (unplayed_with _ _ story certificate manner given before problem h)

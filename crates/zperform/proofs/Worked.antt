@@ -23,7 +23,7 @@ use Rattle.zcheck.specs.declared.refusal.Refusal.TheVariants as refusals
 use Rattle.zcheck.specs.declared.refusal.StreamRefusal.TheVariants as streams
 use Rattle.zplayer.specs.declared.end.End.{End}
 use Rattle.zplayer.specs.declared.end.End.TheVariants as ends
-use Rattle.zplayer.specs.declared.end.Options.{Options}
+use Rattle.zprompt.specs.declared.manner.Manner.{Manner}
 use Rattle.zplayer.specs.declared.end.PlayError.{PlayError}
 use Rattle.zplayer.specs.declared.end.PlayError.TheVariants as errors
 use Rattle.zperform.specs.declared.outcome.Failure.{Failure}
@@ -176,10 +176,10 @@ unfolding reading heading_at magic_at
 empty_certificate = refl
 
 -- for an empty story's file memory is never wanted, and it is too short
-empty_story : (options : Options) (given : World) (before now : Option (List ℕ)) → (ComesTo (Some []) options given [] before now (Stopped (Failed Memory)) → ⊥) × (IsRefused [] loads.TooShort)
-empty_story options given before now = (unwanted, record { lowest = (omega arith, λ lower below. absurd (none lower below)); of_file = λ e. cc })
+empty_story : (manner : Manner) (given : World) (before now : Option (List ℕ)) → (ComesTo (Some []) manner given [] before now (Stopped (Failed Memory)) → ⊥) × (IsRefused [] loads.TooShort)
+empty_story manner given before now = (unwanted, record { lowest = (omega arith, λ lower below. absurd (none lower below)); of_file = λ e. cc })
   where
-    unwanted : ComesTo (Some []) options given [] before now (Stopped (Failed Memory)) → ⊥
+    unwanted : ComesTo (Some []) manner given [] before now (Stopped (Failed Memory)) → ⊥
     unwanted (inl (same, none, some)) = omega (arith, some)
     unwanted (inr (file, same, cut)) = cut.holds.no_cause loads.TooShort (omega arith) (omega (arith, ap length same))
 
@@ -383,10 +383,10 @@ unlisted_empty (inl some) = omega (arith, some)
 unlisted_empty (inr (story, holds, why)) = omega (arith, story_bytes (Some []) story holds)
 
 -- playing never comes to an acceptance, nor checking to the end of a play or to a failed read
-never : (story certificate before now : Option (List ℕ)) (options : Options) (outside : World) →
-    (ComesTo story options outside [] before now Accepted → ⊥) × (PlayComesTo story certificate options outside [] before now Accepted → ⊥)
+never : (story certificate before now : Option (List ℕ)) (manner : Manner) (outside : World) →
+    (ComesTo story manner outside [] before now Accepted → ⊥) × (PlayComesTo story certificate manner outside [] before now Accepted → ⊥)
     × (CheckComesTo story certificate before now (Played ends.Quit) → ⊥) × (CheckComesTo story certificate before now (Stopped (Failed Read)) → ⊥)
-never story certificate before now options outside = (λ no. no, none, λ no. no, λ no. none no.0)
+never story certificate before now manner outside = (λ no. no, none, λ no. no, λ no. none no.0)
   where
     none : ⊥ ⊎ ⊥ → ⊥
     none (inl accepts) = accepts
@@ -415,10 +415,10 @@ kept_whole = (refl, λ e. omega (arith, ap length e))
 
 -- where saves are kept nowhere, none is kept by a play of either machine, whatever comes of it
 kept_nowhere :
-    {V : Type 0} (o : SetOperations V) (input before now : Option (List ℕ)) (seed : ℕ) (options : Options) (result : Result End PlayError)
-    → ((file : List ℕ) (p : IsPlayed file options (given input seed (store_of None)) [] before now result) → p.store.kept ≡ Some None)
-    × ((a : AcceptanceOver V) (p : IsPlayedBy o a options (given input seed (store_of None)) [] before now result) → p.store.kept ≡ Some None)
-kept_nowhere o input before now seed options result = (λ file p. p.unsaved refl, λ a p. p.unsaved refl)
+    {V : Type 0} (o : SetOperations V) (input before now : Option (List ℕ)) (seed : ℕ) (manner : Manner) (result : Result End PlayError)
+    → ((file : List ℕ) (p : IsPlayed file manner (given input seed (store_of None)) [] before now result) → p.store.kept ≡ Some None)
+    × ((a : AcceptanceOver V) (p : IsPlayedBy o a manner (given input seed (store_of None)) [] before now result) → p.store.kept ≡ Some None)
+kept_nowhere o input before now seed manner result = (λ file p. p.unsaved refl, λ a p. p.unsaved refl)
 
 -- ---- files that are to be written over
 

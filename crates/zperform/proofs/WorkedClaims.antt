@@ -2,12 +2,11 @@
 use Rattle.std.proofs.Common.{◌≡◌, ◌≢◌, ◌⊎◌, inl, inr, ℕ, List, [], ◌∷◌, ◌++◌, Bool, true, false, codes, ap, refl, sym, subst, arith, length}
 use Rattle.std.specs.Prelude.{⊤, Option, None, Some, IfSome, Result, Ok, Err, decimal}
 use Rattle.std.specs.Io.KnownBytes.{Appends}
-use Rattle.std.proofs.KnownBytes.{Appends-trans}
 use Rattle.clap.specs.declared.error.kind.ErrorKind.TheVariants.{DisplayHelp, UnknownArgument}
 use Rattle.zfault.specs.Devices.{AppendsBeginning}
 use Rattle.zstory.specs.LoadedStory.{LoadedStory}
 use Rattle.zstory.specs.declared.load_error.LoadError.{LoadError}
-use Rattle.zstate.specs.State.{Setting, State}
+use Rattle.zstate.specs.State.{Setting, State, opening}
 use Rattle.zdomain.specs.Domain.{SetOperations}
 use Rattle.zdomain.specs.Interval.{interval_operations}
 use Rattle.zdomain.specs.Values.{values_operations}
@@ -22,12 +21,14 @@ use Rattle.zref.specs.Machine.{setting_of}
 use Rattle.zref.specs.declared.scope.Scope.TheVariants.{All, Within}
 use Rattle.zplay.specs.Session.{setting_of as session_of}
 use Rattle.zplayer.specs.declared.end.End.{End}
-use Rattle.zplayer.specs.declared.end.Options.{Options}
+use Rattle.zprompt.specs.declared.manner.Manner.{Manner}
 use Rattle.zplayer.specs.declared.end.PlayError.{PlayError}
 use Rattle.zplayer.specs.declared.end.PlayError.TheVariants as errors
 use Rattle.zplayer.specs.Outside.{Blames, Coming}
 use Rattle.zquetzal.specs.declared.error.SaveError.TheVariants.{Compressed, Length, NotDescribed, NotForm}
-use Rattle.zplayer.specs.Playing.{GivesOrSaves, WantsOrSaves, ComesTo as PlayComes}
+use Rattle.zplayer.specs.Playing.{GivesOrSaves, WantsOrSaves}
+use Rattle.zprompt.specs.Manners.{ComesTo as PlayComes}
+use Rattle.zplayer.specs.Stories.{Describes}
 use Rattle.zplayer.specs.World.{Store, World}
 use Rattle.zperform.specs.declared.accepting.AcceptedStory.{AcceptedStory}
 use Rattle.zperform.specs.declared.accepting.AcceptedStory.TheVariants.{Intervals, Lists}
@@ -57,6 +58,7 @@ use Rattle.zperform.specs.declared.wording.Speech.{Speech}
 use Rattle.zperform.specs.declared.wording.Speech.TheVariants.{Codes}
 use Rattle.zperform.specs.Telling.{SaysEach, refusal_text, said_of}
 use Rattle.zperform.specs.Beside.{Aside, Absent, IsUnused, PlaysBeside, Unused, Used}
+use Rattle.zperform.proofs.WrittenLemmas.{Grows, grows}
 use Rattle.zperform.specs.Blaming.{IsOf}
 use Rattle.zperform.specs.declared.blame.Action.TheVariants as actions
 use Rattle.zperform.specs.declared.blame.Blame.{Blame}
@@ -209,35 +211,35 @@ lacking = (
 -- each is of the file that its request names, as it was, and of what was written before and is now
 module _ (search : Search) (story certificate : List ℕ) (held later : Held) (input before now : Option (List ℕ)) (aside : Aside) (outcome : Outcome) where
   comes_of_files :
-      (force json : Bool) → (Comes (ListStory story None json) held later input aside [] before now outcome → ListComesTo json (held.known story) before now outcome)
-      × (Comes (ListStory story (Some certificate) json) held later input aside [] before now outcome → ListByComesTo json (held.known story) (held.known certificate) before now outcome)
-      × (Comes (Find story certificate search.frames search.strict search.places force false) held later input aside [] before now outcome → FindComesTo (record search { json = false }) story certificate held.known later.known before now outcome)
-      × (Comes (Check story certificate false) held later input aside [] before now outcome → CheckComesTo (held.known story) (held.known certificate) before now outcome)
-      × (Comes (Explain (Some story) json) held later input aside [] before now outcome → ExplainComesTo (Some story) json before now outcome)
-  comes_of_files force json = (λ comes. comes, λ comes. comes, λ comes. comes, λ comes. comes, λ comes. comes)
+      (commands force json : Bool) → (Comes commands (ListStory story None json) held later input aside [] before now outcome → ListComesTo json (held.known story) before now outcome)
+      × (Comes commands (ListStory story (Some certificate) json) held later input aside [] before now outcome → ListByComesTo json (held.known story) (held.known certificate) before now outcome)
+      × (Comes commands (Find story certificate search.frames search.strict search.places force false) held later input aside [] before now outcome → FindComesTo (record search { json = false }) story certificate held.known later.known before now outcome)
+      × (Comes commands (Check story certificate false) held later input aside [] before now outcome → CheckComesTo (held.known story) (held.known certificate) before now outcome)
+      × (Comes commands (Explain (Some story) json) held later input aside [] before now outcome → ExplainComesTo (Some story) json before now outcome)
+  comes_of_files commands force json = (λ comes. comes, λ comes. comes, λ comes. comes, λ comes. comes, λ comes. comes)
 
   -- what is told of each of many stories is of it and of its certificate: the one that is named, or the one beside it
   comes_of_each :
-      (stories : List (List ℕ)) (force json : Bool)
-      → (Comes (Find story certificate search.frames search.strict search.places force true) held later input aside [] before now outcome → FindEachComesTo (record search { json = true }) force (Some certificate) (story ∷ []) held later before now outcome)
-      × (Comes (FindEach stories search.frames search.strict search.places force json) held later input aside [] before now outcome → FindEachComesTo (record search { json = json }) force None stories held later before now outcome)
-      × (Comes (Check story certificate true) held later input aside [] before now outcome → CheckEachComesTo true (Some certificate) (story ∷ []) held later before now outcome)
-      × (Comes (CheckEach stories json) held later input aside [] before now outcome → CheckEachComesTo json None stories held later before now outcome)
-  comes_of_each stories force json = (λ comes. comes, λ comes. comes, λ comes. comes, λ comes. comes)
+      (stories : List (List ℕ)) (commands force json : Bool)
+      → (Comes commands (Find story certificate search.frames search.strict search.places force true) held later input aside [] before now outcome → FindEachComesTo (record search { json = true }) force (Some certificate) (story ∷ []) held later before now outcome)
+      × (Comes commands (FindEach stories search.frames search.strict search.places force json) held later input aside [] before now outcome → FindEachComesTo (record search { json = json }) force None stories held later before now outcome)
+      × (Comes commands (Check story certificate true) held later input aside [] before now outcome → CheckEachComesTo true (Some certificate) (story ∷ []) held later before now outcome)
+      × (Comes commands (CheckEach stories json) held later input aside [] before now outcome → CheckEachComesTo json None stories held later before now outcome)
+  comes_of_each stories commands force json = (λ comes. comes, λ comes. comes, λ comes. comes, λ comes. comes)
 
   comes_of_plays :
-      (seed budget : ℕ) (status : StatusLines) (save : Option (List ℕ)) (tell force : Bool)
-      → (Comes (Play story None seed budget status save tell force false) held later input aside [] before now outcome → PlaysBeside held later story save aside (record { budget = budget; status = status }) (given input seed (store_of save)) [] before now outcome)
-      × (Comes (Play story (Some certificate) seed budget status save tell force false) held later input aside [] before now outcome → PlayComesTo (held.known story) (held.known certificate) (record { budget = budget; status = status }) (given input seed (store_of save)) [] before now outcome)
-  comes_of_plays seed budget status save tell force = (λ comes. comes, λ comes. comes)
+      (seed budget : ℕ) (status : StatusLines) (save : Option (List ℕ)) (commands tell force : Bool)
+      → (Comes commands (Play story None seed budget status save tell force false) held later input aside [] before now outcome → PlaysBeside held later story save aside (record { options = record { budget = budget; status = status }; commands = commands }) (given input seed (store_of save)) [] before now outcome)
+      × (Comes commands (Play story (Some certificate) seed budget status save tell force false) held later input aside [] before now outcome → PlayComesTo (held.known story) (held.known certificate) (record { options = record { budget = budget; status = status }; commands = commands }) (given input seed (store_of save)) [] before now outcome)
+  comes_of_plays seed budget status save commands tell force = (λ comes. comes, λ comes. comes)
 
   -- with no certificate named a story is played by the one beside it only where it is accepted with that, and else with everything tested
   comes_beside :
-      (save : Option (List ℕ)) (options : Options) (world : World) (blame : Option Blame) (problem : Problem)
-      → (PlaysBeside held later story save Absent options world [] before now outcome → (held.known (name_of_certificate story) ≡ None) × ComesTo (held.known story) options world [] before now outcome)
-      × (PlaysBeside held later story save Used options world [] before now outcome → ((a : AcceptedStory) × IsAcceptedStory (held.known story) (held.known (name_of_certificate story)) a) × PlayComesTo (held.known story) (held.known (name_of_certificate story)) options world [] before now outcome)
-      × (PlaysBeside held later story save (Unused blame problem) options world [] before now outcome → IsUnused held story blame problem × ComesTo (held.known story) options world [] before now outcome)
-  comes_beside save options world blame problem = (λ plays. plays.comes, λ plays. plays.comes, λ plays. plays.comes)
+      (save : Option (List ℕ)) (manner : Manner) (world : World) (blame : Option Blame) (problem : Problem)
+      → (PlaysBeside held later story save Absent manner world [] before now outcome → (held.known (name_of_certificate story) ≡ None) × ComesTo (held.known story) manner world [] before now outcome)
+      × (PlaysBeside held later story save Used manner world [] before now outcome → ((a : AcceptedStory) × IsAcceptedStory (held.known story) (held.known (name_of_certificate story)) a) × PlayComesTo (held.known story) (held.known (name_of_certificate story)) manner world [] before now outcome)
+      × (PlaysBeside held later story save (Unused blame problem) manner world [] before now outcome → IsUnused held story blame problem × ComesTo (held.known story) manner world [] before now outcome)
+  comes_beside save manner world blame problem = (λ plays. plays.comes, λ plays. plays.comes, λ plays. plays.comes)
 
   -- the file that is told of where one failed is one that the request names
   told_of :
@@ -259,11 +261,11 @@ longer : ◌≡◌ {A = Option (List ℕ)} (Some (1 ∷ 2 ∷ [])) (Some (1 ∷ 
 longer e = absurd cc
 
 unwritten :
-    (options : Options) (outside : World) (error : LoadError)
-    → IsUnwritten (ComesTo (Some []) options outside []) (Stopped (Failed File)) × IsUnwritten (ComesTo (Some []) options outside []) (Stopped (Refused error)) × IsUnwritten (ComesTo (Some []) options outside []) (Stopped (Failed Memory))
-    × IsUnwritten (PlayComesTo (Some []) (Some []) options outside []) (Stopped (Failed File)) × IsUnwritten (PlayComesTo (Some []) (Some []) options outside []) (Stopped (Refused error)) × IsUnwritten (PlayComesTo (Some []) (Some []) options outside []) (Stopped (Failed Memory))
+    (manner : Manner) (outside : World) (error : LoadError)
+    → IsUnwritten (ComesTo (Some []) manner outside []) (Stopped (Failed File)) × IsUnwritten (ComesTo (Some []) manner outside []) (Stopped (Refused error)) × IsUnwritten (ComesTo (Some []) manner outside []) (Stopped (Failed Memory))
+    × IsUnwritten (PlayComesTo (Some []) (Some []) manner outside []) (Stopped (Failed File)) × IsUnwritten (PlayComesTo (Some []) (Some []) manner outside []) (Stopped (Refused error)) × IsUnwritten (PlayComesTo (Some []) (Some []) manner outside []) (Stopped (Failed Memory))
     × IsUnwritten (ListComesTo false (Some [])) (Stopped (Failed File)) × IsUnwritten (ListComesTo false (Some [])) (Stopped (Failed Memory)) × IsUnwritten (ListByComesTo false (Some []) (Some [])) (Stopped (Failed File)) × IsUnwritten (CheckComesTo (Some []) (Some [])) (Stopped (Failed File)) × IsUnwritten (ExplainComesTo (Some (codes "X9")) false) NoSuchCode
-unwritten options outside error = (
+unwritten manner outside error = (
   λ comes. longer comes.0,
   λ comes. longer comes.1,
   no_memory,
@@ -277,68 +279,65 @@ unwritten options outside error = (
   λ comes. longer comes.1,
 )
   where
-    no_memory : IsUnwritten (ComesTo (Some []) options outside []) (Stopped (Failed Memory))
+    no_memory : IsUnwritten (ComesTo (Some []) manner outside []) (Stopped (Failed Memory))
     no_memory (inl (same, none, some)) = longer same
     no_memory (inr (file, same, played)) = omega (arith, story_bytes (Some []) played.story (file, same, played.holds))
 
-    no_memory_to_accept : {V : Type 0} (o : SetOperations V) (format : Format V) → IsUnwritten (PlayEnds o format (Some []) (Some []) options outside []) (Stopped (Failed Memory))
+    no_memory_to_accept : {V : Type 0} (o : SetOperations V) (format : Format V) → IsUnwritten (PlayEnds o format (Some []) (Some []) manner outside []) (Stopped (Failed Memory))
     no_memory_to_accept o format (inl (same, none, some)) = longer same
     no_memory_to_accept o format (inr (inl (a, accepted, played))) = omega (arith, story_bytes (Some []) a.story accepted.story)
     no_memory_to_accept o format (inr (inr (m, marked, played))) = omega (arith, story_bytes (Some []) m.story marked.story)
 
--- what was written before is never taken back, in one part or in two
-never_less : (between : Option (List ℕ)) (first rest : List ℕ) → Appends (Some (1 ∷ [])) between first → Appends between (Some []) rest → ⊥
-never_less between first rest before behind = absurd (let e = Appends-trans (Some (1 ∷ [])) between (Some []) first rest before behind in cc)
+-- what was written before is never taken back, with the player's own commands or with none
+never_less : Grows (Some (1 ∷ [])) (Some []) → ⊥
+never_less (bytes, behind) = absurd (let e = behind in cc)
 
-loses : (m : Setting) (T : State → Type 0) (W : State → Type 0) (options : Options) (given : World) (s t : State) (words : Option Coming) (store : Store) (result : Result End PlayError)
-    → PlayComes m T W options given s t words store (Some (1 ∷ [])) (Some []) result → ⊥
-loses m T W options given s t words store (Ok end) (left, input, finished) = absurd (let e = finished.written in cc)
-loses m T W options given s t words store (Err errors.Read) (left, input, (plays, awaited)) = absurd (let e = plays.written in cc)
-loses m T W options given s t words store (Err errors.Write) (left, input, part) = never_less part.between _ _ part.plays.written part.turn.written.grown
-loses m T W options given s t words store (Err errors.OutOfMemory) (left, input, (plays, wants)) = absurd (let e = plays.written in cc)
+loses : (m : Setting) (T : State → Type 0) (W : State → Type 0) (manner : Manner) (given : World) (s t : State) (words : Option Coming) (store : Store) (result : Result End PlayError)
+    → PlayComes m T W manner given s t words store (Some (1 ∷ [])) (Some []) result → ⊥
+loses m T W manner given s t words store result came = never_less (grows m T W manner given s t words store (Some (1 ∷ [])) (Some []) result came)
 
-of_play : (options : Options) (outside : World) (file : List ℕ) (result : Result End PlayError) → IsPlayed file options outside [] (Some (1 ∷ [])) (Some []) result → ⊥
-of_play options outside file result played = loses _ _ (WantsOrSaves (setting_of played.story All)) _ _ _ _ _ _ result played.comes
+of_play : (manner : Manner) (outside : World) (file : List ℕ) (result : Result End PlayError) → IsPlayed file manner outside [] (Some (1 ∷ [])) (Some []) result → ⊥
+of_play manner outside file result played = loses (setting_of played.story All) (λ _. ⊤) (WantsOrSaves (setting_of played.story All)) manner outside (opening played.story) played.state played.words played.store result played.comes
 
-of_accepted : {V : Type 0} (o : SetOperations V) (options : Options) (outside : World) (a : AcceptanceOver V) (result : Result End PlayError) → IsPlayedBy o a options outside [] (Some (1 ∷ [])) (Some []) result → ⊥
-of_accepted o options outside a result played = loses _ _ (GivesOrSaves (session_of a)) _ _ _ _ _ _ result played.comes
+of_accepted : {V : Type 0} (o : SetOperations V) (manner : Manner) (outside : World) (a : AcceptanceOver V) (result : Result End PlayError) → IsPlayedBy o a manner outside [] (Some (1 ∷ [])) (Some []) result → ⊥
+of_accepted o manner outside a result played = loses (session_of a) (Describes o a) (GivesOrSaves (session_of a)) manner outside (opening a.story) played.state played.words played.store result played.comes
 
-of_marked : {V : Type 0} (options : Options) (outside : World) (m : MarkedOver V) (result : Result End PlayError) → IsPlayedMarked m options outside [] (Some (1 ∷ [])) (Some []) result → ⊥
-of_marked options outside m result played = loses _ _ (WantsOrSaves (setting_of m.story (Within (frame_limit m.certificate)))) _ _ _ _ _ _ result played.comes
+of_marked : {V : Type 0} (manner : Manner) (outside : World) (m : MarkedOver V) (result : Result End PlayError) → IsPlayedMarked m manner outside [] (Some (1 ∷ [])) (Some []) result → ⊥
+of_marked manner outside m result played = loses (setting_of m.story (Within (frame_limit m.certificate))) (λ _. ⊤) (WantsOrSaves (setting_of m.story (Within (frame_limit m.certificate)))) manner outside (opening m.story) played.state played.words played.store result played.comes
 
 -- nor with a certificate, whether it marks something or not
-of_either : {V : Type 0} (o : SetOperations V) (format : Format V) (options : Options) (outside : World) (result : Result End PlayError) → Plays o format None None options outside [] (Some (1 ∷ [])) (Some []) result → ⊥
-of_either o format options outside result (inl (a, accepted, played)) = of_accepted o options outside a result played
-of_either o format options outside result (inr (m, marked, played)) = of_marked options outside m result played
+of_either : {V : Type 0} (o : SetOperations V) (format : Format V) (manner : Manner) (outside : World) (result : Result End PlayError) → Plays o format None None manner outside [] (Some (1 ∷ [])) (Some []) result → ⊥
+of_either o format manner outside result (inl (a, accepted, played)) = of_accepted o manner outside a result played
+of_either o format manner outside result (inr (m, marked, played)) = of_marked manner outside m result played
 
 abbrev Loses : (Option (List ℕ) → Option (List ℕ) → Outcome → Type 0) → Outcome → Type 0
 Loses ComesSo outcome = ComesSo (Some (1 ∷ [])) (Some []) outcome → ⊥
 
 played_on :
-    (options : Options) (outside : World) (end : End)
-    → Loses (ComesTo None options outside []) (Played end) × Loses (ComesTo None options outside []) (Stopped (Failed Read)) × Loses (ComesTo None options outside []) (Stopped (Failed Write)) × Loses (ComesTo None options outside []) (Stopped (Failed Memory))
-    × Loses (PlayComesTo None None options outside []) (Played end) × Loses (PlayComesTo None None options outside []) (Stopped (Failed Read)) × Loses (PlayComesTo None None options outside []) (Stopped (Failed Write)) × Loses (PlayComesTo None None options outside []) (Stopped (Failed Memory))
-played_on options outside end = (
-  λ comes. of_play options outside comes.0 (Ok end) comes.2,
-  λ comes. of_play options outside comes.0 (Err errors.Read) comes.2,
-  λ comes. of_play options outside comes.0 (Err errors.Write) comes.2,
+    (manner : Manner) (outside : World) (end : End)
+    → Loses (ComesTo None manner outside []) (Played end) × Loses (ComesTo None manner outside []) (Stopped (Failed Read)) × Loses (ComesTo None manner outside []) (Stopped (Failed Write)) × Loses (ComesTo None manner outside []) (Stopped (Failed Memory))
+    × Loses (PlayComesTo None None manner outside []) (Played end) × Loses (PlayComesTo None None manner outside []) (Stopped (Failed Read)) × Loses (PlayComesTo None None manner outside []) (Stopped (Failed Write)) × Loses (PlayComesTo None None manner outside []) (Stopped (Failed Memory))
+played_on manner outside end = (
+  λ comes. of_play manner outside comes.0 (Ok end) comes.2,
+  λ comes. of_play manner outside comes.0 (Err errors.Read) comes.2,
+  λ comes. of_play manner outside comes.0 (Err errors.Write) comes.2,
   no_memory,
-  neither (of_either _ _ options outside (Ok end)) (of_either _ _ options outside (Ok end)),
-  neither (of_either _ _ options outside (Err errors.Read)) (of_either _ _ options outside (Err errors.Read)),
-  neither (of_either _ _ options outside (Err errors.Write)) (of_either _ _ options outside (Err errors.Write)),
+  neither (of_either _ _ manner outside (Ok end)) (of_either _ _ manner outside (Ok end)),
+  neither (of_either _ _ manner outside (Err errors.Read)) (of_either _ _ manner outside (Err errors.Read)),
+  neither (of_either _ _ manner outside (Err errors.Write)) (of_either _ _ manner outside (Err errors.Write)),
   neither (no_memory_to_accept _ _) (no_memory_to_accept _ _),
 )
   where
     empty : ◌≡◌ {A = Option (List ℕ)} (Some []) (Some (1 ∷ [])) → ⊥
     empty e = absurd cc
 
-    no_memory : Loses (ComesTo None options outside []) (Stopped (Failed Memory))
+    no_memory : Loses (ComesTo None manner outside []) (Stopped (Failed Memory))
     no_memory (inl (same, none, some)) = empty same
-    no_memory (inr (file, same, played)) = of_play options outside file (Err errors.OutOfMemory) played
+    no_memory (inr (file, same, played)) = of_play manner outside file (Err errors.OutOfMemory) played
 
-    no_memory_to_accept : {V : Type 0} (o : SetOperations V) (format : Format V) → Loses (PlayEnds o format None None options outside []) (Stopped (Failed Memory))
+    no_memory_to_accept : {V : Type 0} (o : SetOperations V) (format : Format V) → Loses (PlayEnds o format None None manner outside []) (Stopped (Failed Memory))
     no_memory_to_accept o format (inl (same, none, some)) = empty same
-    no_memory_to_accept o format (inr played) = of_either o format options outside (Err errors.OutOfMemory) played
+    no_memory_to_accept o format (inr played) = of_either o format manner outside (Err errors.OutOfMemory) played
 
 -- no bytes are no certificate
 unread : {V : Type 0} (format : Format V) (c : Certificate V) → HoldsCertificate format (Some []) c → ⊥
@@ -356,13 +355,13 @@ module _ {V : Type 0} (o : SetOperations V) (format : Format V) where
   no_certificate_with story (Marked m) marked = unread format m.certificate marked.certificate
 
   -- nor is it played
-  no_play_of_none : (certificate : Option (List ℕ)) (options : Options) (outside : World) (before now : Option (List ℕ)) (result : Result End PlayError) → Plays o format (Some []) certificate options outside [] before now result → ⊥
-  no_play_of_none certificate options outside before now result (inl (a, accepted, played)) = no_story_with certificate (Whole a) accepted
-  no_play_of_none certificate options outside before now result (inr (m, marked, played)) = no_story_with certificate (Marked m) marked
+  no_play_of_none : (certificate : Option (List ℕ)) (manner : Manner) (outside : World) (before now : Option (List ℕ)) (result : Result End PlayError) → Plays o format (Some []) certificate manner outside [] before now result → ⊥
+  no_play_of_none certificate manner outside before now result (inl (a, accepted, played)) = no_story_with certificate (Whole a) accepted
+  no_play_of_none certificate manner outside before now result (inr (m, marked, played)) = no_story_with certificate (Marked m) marked
 
-  no_play_with_none : (story : Option (List ℕ)) (options : Options) (outside : World) (before now : Option (List ℕ)) (result : Result End PlayError) → Plays o format story (Some []) options outside [] before now result → ⊥
-  no_play_with_none story options outside before now result (inl (a, accepted, played)) = no_certificate_with story (Whole a) accepted
-  no_play_with_none story options outside before now result (inr (m, marked, played)) = no_certificate_with story (Marked m) marked
+  no_play_with_none : (story : Option (List ℕ)) (manner : Manner) (outside : World) (before now : Option (List ℕ)) (result : Result End PlayError) → Plays o format story (Some []) manner outside [] before now result → ⊥
+  no_play_with_none story manner outside before now result (inl (a, accepted, played)) = no_certificate_with story (Whole a) accepted
+  no_play_with_none story manner outside before now result (inr (m, marked, played)) = no_certificate_with story (Marked m) marked
 
 no_story : (a : AcceptedStory) (certificate : Option (List ℕ)) → IsAcceptedStory (Some []) certificate a → ⊥
 no_story (Intervals a) certificate accepted = no_story_with _ _ certificate a accepted
@@ -377,29 +376,29 @@ ComesOfNone ComesSo outcome = ComesSo None None outcome → ⊥
 
 -- (of the story's file first, then of the certificate's)
 accepted_of_files :
-    (options : Options) (outside : World) (end : End)
-    → ComesOfNone (CheckComesTo (Some []) None) Accepted × ComesOfNone (CheckComesTo (Some []) None) (Stopped (Failed Write)) × ComesOfNone (PlayComesTo (Some []) None options outside []) (Played end)
-    × ComesOfNone (PlayComesTo (Some []) None options outside []) (Stopped (Failed Read)) × ComesOfNone (PlayComesTo (Some []) None options outside []) (Stopped (Failed Write)) × ComesOfNone (PlayComesTo (Some []) (Some (1 ∷ [])) options outside []) (Stopped (Failed Memory))
-    × ComesOfNone (CheckComesTo None (Some [])) Accepted × ComesOfNone (CheckComesTo None (Some [])) (Stopped (Failed Write)) × ComesOfNone (PlayComesTo None (Some []) options outside []) (Played end)
+    (manner : Manner) (outside : World) (end : End)
+    → ComesOfNone (CheckComesTo (Some []) None) Accepted × ComesOfNone (CheckComesTo (Some []) None) (Stopped (Failed Write)) × ComesOfNone (PlayComesTo (Some []) None manner outside []) (Played end)
+    × ComesOfNone (PlayComesTo (Some []) None manner outside []) (Stopped (Failed Read)) × ComesOfNone (PlayComesTo (Some []) None manner outside []) (Stopped (Failed Write)) × ComesOfNone (PlayComesTo (Some []) (Some (1 ∷ [])) manner outside []) (Stopped (Failed Memory))
+    × ComesOfNone (CheckComesTo None (Some [])) Accepted × ComesOfNone (CheckComesTo None (Some [])) (Stopped (Failed Write)) × ComesOfNone (PlayComesTo None (Some []) manner outside []) (Played end)
     × ComesOfNone (ListByComesTo false (Some []) None) Listed × ComesOfNone (ListByComesTo false None (Some [])) Listed × ComesOfNone (ListByComesTo false None (Some [])) (Stopped (Failed Write))
-accepted_of_files options outside end = (
+accepted_of_files manner outside end = (
   λ comes. no_story comes.0 _ comes.1,
   λ comes. no_story comes.0 _ comes.1,
-  neither (no_play_of_none _ _ _ options outside None None (Ok end)) (no_play_of_none _ _ _ options outside None None (Ok end)),
-  neither (no_play_of_none _ _ _ options outside None None (Err errors.Read)) (no_play_of_none _ _ _ options outside None None (Err errors.Read)),
-  neither (no_play_of_none _ _ _ options outside None None (Err errors.Write)) (no_play_of_none _ _ _ options outside None None (Err errors.Write)),
+  neither (no_play_of_none _ _ _ manner outside None None (Ok end)) (no_play_of_none _ _ _ manner outside None None (Ok end)),
+  neither (no_play_of_none _ _ _ manner outside None None (Err errors.Read)) (no_play_of_none _ _ _ manner outside None None (Err errors.Read)),
+  neither (no_play_of_none _ _ _ manner outside None None (Err errors.Write)) (no_play_of_none _ _ _ manner outside None None (Err errors.Write)),
   neither (no_memory _ _) (no_memory _ _),
   λ comes. no_certificate _ comes.0 comes.1,
   λ comes. no_certificate _ comes.0 comes.1,
-  neither (no_play_with_none _ _ _ options outside None None (Ok end)) (no_play_with_none _ _ _ options outside None None (Ok end)),
+  neither (no_play_with_none _ _ _ manner outside None None (Ok end)) (no_play_with_none _ _ _ manner outside None None (Ok end)),
   λ comes. neither (λ held. no_story_with _ _ _ held.0 held.1) (λ held. no_story_with _ _ _ held.0 held.1) comes.1,
   λ comes. neither (λ held. no_certificate_with _ _ _ held.0 held.1) (λ held. no_certificate_with _ _ _ held.0 held.1) comes.1,
   λ comes. neither (λ held. no_certificate_with _ _ _ held.0 held.1) (λ held. no_certificate_with _ _ _ held.0 held.1) comes.1,
 )
   where
-    no_memory : {V : Type 0} (o : SetOperations V) (format : Format V) → ComesOfNone (PlayEnds o format (Some []) (Some (1 ∷ [])) options outside []) (Stopped (Failed Memory))
+    no_memory : {V : Type 0} (o : SetOperations V) (format : Format V) → ComesOfNone (PlayEnds o format (Some []) (Some (1 ∷ [])) manner outside []) (Stopped (Failed Memory))
     no_memory o format (inl (same, none, some)) = omega (arith, some)
-    no_memory o format (inr played) = no_play_of_none o format _ options outside None None (Err errors.OutOfMemory) played
+    no_memory o format (inr played) = no_play_of_none o format _ manner outside None None (Err errors.OutOfMemory) played
 
 -- an acceptance that was begun to be written isn't taken back either
 begun_on : Loses (CheckComesTo None None) (Stopped (Failed Write)) × ((code : Option (List ℕ)) (json : Bool) → Loses (ExplainComesTo code json) Explained × Loses (ExplainComesTo code json) (Stopped (Failed Write)))
@@ -440,8 +439,8 @@ module _ {V : Type 0} (o : SetOperations V) (format : Format V) (story certifica
   broken_of_files :
       (IsUnaccepted o format story certificate (BreaksStory rule) → (s : LoadedStory) × (c : Certificate V) × HoldsStory story s × HoldsCertificate format certificate c)
       × (IsUnaccepted o format story certificate (BreaksInstruction address broken) → (s : LoadedStory) × (c : Certificate V) × HoldsStory story s × HoldsCertificate format certificate c)
-      × ((options : Options) (outside : World) (before now : Option (List ℕ)) → PlayEnds o format story certificate options outside [] before now (Stopped (BreaksStory rule)) → (s : LoadedStory) × (c : Certificate V) × HoldsStory story s × HoldsCertificate format certificate c)
-  broken_of_files = (λ b. (b.story, b.certificate, b.held, b.read), λ b. (b.story, b.certificate, b.held, b.read), λ options outside before now comes. (comes.0.story, comes.0.certificate, comes.0.held, comes.0.read))
+      × ((manner : Manner) (outside : World) (before now : Option (List ℕ)) → PlayEnds o format story certificate manner outside [] before now (Stopped (BreaksStory rule)) → (s : LoadedStory) × (c : Certificate V) × HoldsStory story s × HoldsCertificate format certificate c)
+  broken_of_files = (λ b. (b.story, b.certificate, b.held, b.read), λ b. (b.story, b.certificate, b.held, b.read), λ manner outside before now comes. (comes.0.story, comes.0.certificate, comes.0.held, comes.0.read))
 
 -- `check` tells of no rule where the certificate's file holds no certificate, whatever was written before
 unread_at_check : (rule : StoryRule) (address : ℕ) (broken : Rule) → (CheckComesTo None (Some []) None None (Stopped (BreaksStory rule)) → ⊥) × (CheckComesTo None (Some []) None None (Stopped (BreaksInstruction address broken)) → ⊥)
@@ -513,14 +512,14 @@ explained = (
 
 -- ---- all that is done
 
-module _ (words : List (List ℕ)) (speech : Speech) (status : ℕ) (old new : Devices) where
+module _ (words : List (List ℕ)) (speech : Speech) (commands : Bool) (status : ℕ) (old new : Devices) where
   -- the words do it, or there was no memory to read them
-  performed : Performs words speech status old new → Does words speech status old new ⊎ Lacks status old new
+  performed : Performs words speech commands status old new → Does words speech commands status old new ⊎ Lacks status old new
   performed performs = performs
 
   -- what is done is of the devices as they were and as they are
   done :
-      (did : Does words speech status old new) → Begins did.request old.files new.files old.reader.remaining did.aside did.refusals old.writer.contents new.writer.contents did.outcome
+      (did : Does words speech commands status old new) → Begins commands did.request old.files new.files old.reader.remaining did.aside did.refusals old.writer.contents new.writer.contents did.outcome
       × (did.outcome ≡ Stopped (Failed File) → IsBlamed did.request old.files) × (did.outcome ≡ Stopped (Failed File) → IsToldOf did.request new.files.blamed) × Blames (did.outcome ≡ Stopped (Failed Read)) old.reader.failures new.reader.failures × (is_quiet did.request ≡ true → new.reader ≡ old.reader)
       × SaysFor did.request did.aside did.refusals old.errors did.between × Reports speech new.files.blamed did.outcome status did.between new.errors × FlushesUnless (λ (s : Seen). s.failures) (λ (s : Seen). s.waits) old.writer new.writer (did.outcome ≡ Stopped (Failed Write))
       × (is_each did.request ≡ false → UsesUnless (λ (f : Held). f.known) (λ (f : Held). f.failures) old.files new.files (spared_in did.request) (written_by did.request) (did.outcome ≡ Stopped (Failed File)))

@@ -56,10 +56,10 @@ spared = (refl, refl, refl)
 -- what it comes to and tells
 module _ (held later : Held) (story certificate : List ℕ) (input before now : Option (List ℕ)) (aside : Aside) (outcome : Outcome) (old new : Seen) (problem : Problem) (blame : Option Blame) where
   comes_of_lenient :
-      (beside : Option (List ℕ)) (seed budget : ℕ) (status : StatusLines) (save : Option (List ℕ)) (tell force : Bool)
-      → (Comes (Play story beside seed budget status save tell force true) held later input aside [] before now outcome → PlaysExcused held story beside aside (record { budget = budget; status = status }) (given input seed (store_of save)) [] before now outcome)
+      (beside : Option (List ℕ)) (commands : Bool) (seed budget : ℕ) (status : StatusLines) (save : Option (List ℕ)) (tell force : Bool)
+      → (Comes commands (Play story beside seed budget status save tell force true) held later input aside [] before now outcome → PlaysExcused held story beside aside (record { budget = budget; status = status }) (given input seed (store_of save)) [] before now outcome)
       × (SaysFor (Play story beside seed budget status save tell force true) aside (NotForm ∷ []) old new → SaysBoth (said_of tell save (NotForm ∷ [])) (noted_of aside) old new)
-  comes_of_lenient beside seed budget status save tell force = (λ comes. comes, λ says. says)
+  comes_of_lenient beside commands seed budget status save tell force = (λ comes. comes, λ says. says)
 
   -- with a certificate the story has to be accepted with that
   unplayed :

@@ -10,11 +10,12 @@ use Rattle.zstate.specs.State.{State, opening}
 use Rattle.zplay.specs.Session.{setting_of}
 use Rattle.zplayer.specs.declared.end.End.{End}
 use Rattle.zplayer.specs.declared.end.End.TheVariants as ends
-use Rattle.zplayer.specs.declared.end.Options.{Options}
+use Rattle.zprompt.specs.declared.manner.Manner.{Manner}
 use Rattle.zplayer.specs.declared.end.PlayError.{PlayError}
 use Rattle.zplayer.specs.declared.end.PlayError.TheVariants as errors
 use Rattle.zplayer.specs.Outside.{Coming}
-use Rattle.zplayer.specs.Playing.{GivesOrSaves, WantsOrSaves, ComesTo as PlayComes}
+use Rattle.zplayer.specs.Playing.{GivesOrSaves, WantsOrSaves}
+use Rattle.zprompt.specs.Manners.{ComesTo as PlayComes}
 use Rattle.zref.specs.Machine.{setting_of as setting_within}
 use Rattle.zref.specs.declared.scope.Scope.TheVariants.{Within}
 use Rattle.zplayer.specs.Stories.{Describes}
@@ -168,49 +169,49 @@ Stops begun IsWhy before now problem = IsWhy problem × (now ≡ before)
 
 -- what was accepted was played from its opening, of which the certificate's listing bounds the scope, and came to this, with no
 -- fault; the saves that were refused were so for these causes, the newest first
-pub record IsPlayedBy {V : Type 0} (o : SetOperations V) (a : AcceptanceOver V) (options : Options) (given : World) (refusals : List SaveError) (before now : Option (List ℕ)) (result : Result End PlayError) : Type 0 where
+pub record IsPlayedBy {V : Type 0} (o : SetOperations V) (a : AcceptanceOver V) (manner : Manner) (given : World) (refusals : List SaveError) (before now : Option (List ℕ)) (result : Result End PlayError) : Type 0 where
   pub state : State
   pub words : Option Coming
   pub store : Store
-  pub comes : PlayComes (setting_of a) (Describes o a) (GivesOrSaves (setting_of a)) options given (opening a.story) state words store before now result
+  pub comes : PlayComes (setting_of a) (Describes o a) (GivesOrSaves (setting_of a)) manner given (opening a.story) state words store before now result
   pub unsaved : StaysEmpty given.store store
   pub refused : store.refusals ≡ refusals
   pub safe : IfOk result (λ end. (fault : Fault) (place : ℤ) → end ≢ ends.Fault fault place)
 
 -- what is accepted but where it is marked was played from its opening by the checked machine, with every place in scope and as many frames as
 -- its certificate says, and came to this; the saves that were refused were so for these causes, the newest first
-pub record IsPlayedMarked {V : Type 0} (m : MarkedOver V) (options : Options) (given : World) (refusals : List SaveError) (before now : Option (List ℕ)) (result : Result End PlayError) : Type 0 where
+pub record IsPlayedMarked {V : Type 0} (m : MarkedOver V) (manner : Manner) (given : World) (refusals : List SaveError) (before now : Option (List ℕ)) (result : Result End PlayError) : Type 0 where
   pub state : State
   pub words : Option Coming
   pub store : Store
-  pub comes : PlayComes (setting_within m.story (Within (frame_limit m.certificate))) (λ _. ⊤) (WantsOrSaves (setting_within m.story (Within (frame_limit m.certificate)))) options given (opening m.story) state words store before now result
+  pub comes : PlayComes (setting_within m.story (Within (frame_limit m.certificate))) (λ _. ⊤) (WantsOrSaves (setting_within m.story (Within (frame_limit m.certificate)))) manner given (opening m.story) state words store before now result
   pub unsaved : StaysEmpty given.store store
   pub refused : store.refusals ≡ refusals
 
 -- What playing by a certificate comes to with one kind of sets, with why saves were refused, the newest first.
 module _ {V : Type 0} (o : SetOperations V) (format : Format V) (story_known certificate_known : Option (List ℕ)) where
   -- with marks or without
-  abbrev pub Plays : Options → World → List SaveError → Option (List ℕ) → Option (List ℕ) → Result End PlayError → Type 0
-  Plays options given refusals before now result =
-      Accepts o format story_known certificate_known (λ a. IsPlayedBy o a options given refusals before now result) ⊎ Marks o format story_known certificate_known (λ m. IsPlayedMarked m options given refusals before now result)
+  abbrev pub Plays : Manner → World → List SaveError → Option (List ℕ) → Option (List ℕ) → Result End PlayError → Type 0
+  Plays manner given refusals before now result =
+      Accepts o format story_known certificate_known (λ a. IsPlayedBy o a manner given refusals before now result) ⊎ Marks o format story_known certificate_known (λ m. IsPlayedMarked m manner given refusals before now result)
 
-  abbrev pub PlayEnds : Options → World → List SaveError → Option (List ℕ) → Option (List ℕ) → Outcome → Type 0
-  PlayEnds options given refusals before now Listed = ⊥
-  PlayEnds options given refusals before now Found = ⊥
-  PlayEnds options given refusals before now Shown = ⊥
-  PlayEnds options given refusals before now NoAddress = ⊥
-  PlayEnds options given refusals before now Informed = ⊥
-  PlayEnds options given refusals before now Explained = ⊥
-  PlayEnds options given refusals before now Unpacked = ⊥
-  PlayEnds options given refusals before now NoSuchCode = ⊥
-  PlayEnds options given refusals before now OneForMany = ⊥
-  PlayEnds options given refusals before now Accepted = ⊥
-  PlayEnds options given refusals before now (Through tally) = ⊥
-  PlayEnds options given refusals before now (Played end) = Plays options given refusals before now (Ok end)
-  PlayEnds options given refusals before now (Stopped (Failed Read)) = Plays options given refusals before now (Err errors.Read)
-  PlayEnds options given refusals before now (Stopped (Failed Write)) = Plays options given refusals before now (Err errors.Write)
-  PlayEnds options given refusals before now (Stopped (Failed Memory)) = ((now ≡ before) × (refusals ≡ []) × HasBytes story_known) ⊎ Plays options given refusals before now (Err errors.OutOfMemory)
-  PlayEnds options given refusals before now (Stopped problem) = IsUnaccepted o format story_known certificate_known problem × (now ≡ before) × (refusals ≡ [])
+  abbrev pub PlayEnds : Manner → World → List SaveError → Option (List ℕ) → Option (List ℕ) → Outcome → Type 0
+  PlayEnds manner given refusals before now Listed = ⊥
+  PlayEnds manner given refusals before now Found = ⊥
+  PlayEnds manner given refusals before now Shown = ⊥
+  PlayEnds manner given refusals before now NoAddress = ⊥
+  PlayEnds manner given refusals before now Informed = ⊥
+  PlayEnds manner given refusals before now Explained = ⊥
+  PlayEnds manner given refusals before now Unpacked = ⊥
+  PlayEnds manner given refusals before now NoSuchCode = ⊥
+  PlayEnds manner given refusals before now OneForMany = ⊥
+  PlayEnds manner given refusals before now Accepted = ⊥
+  PlayEnds manner given refusals before now (Through tally) = ⊥
+  PlayEnds manner given refusals before now (Played end) = Plays manner given refusals before now (Ok end)
+  PlayEnds manner given refusals before now (Stopped (Failed Read)) = Plays manner given refusals before now (Err errors.Read)
+  PlayEnds manner given refusals before now (Stopped (Failed Write)) = Plays manner given refusals before now (Err errors.Write)
+  PlayEnds manner given refusals before now (Stopped (Failed Memory)) = ((now ≡ before) × (refusals ≡ []) × HasBytes story_known) ⊎ Plays manner given refusals before now (Err errors.OutOfMemory)
+  PlayEnds manner given refusals before now (Stopped problem) = IsUnaccepted o format story_known certificate_known problem × (now ≡ before) × (refusals ≡ [])
 
 -- ---- with a certificate of either kind of sets, as its file says
 
@@ -256,6 +257,6 @@ CheckComesTo story_known certificate_known before now (Stopped problem) =
     Stops ((a : AcceptedStory) × IsAcceptedStory story_known certificate_known a × AppendsBeginning before now (accepted_line (marks_of a))) (IsUnacceptedStory story_known certificate_known) before now problem
 
 -- What playing by a certificate comes to, with why saves were refused, the newest first.
-abbrev pub PlayComesTo : Option (List ℕ) → Option (List ℕ) → Options → World → List SaveError → Option (List ℕ) → Option (List ℕ) → Outcome → Type 0
-PlayComesTo story_known certificate_known options given refusals before now outcome =
-    PlayEnds interval_operations interval_format story_known certificate_known options given refusals before now outcome ⊎ PlayEnds values_operations values_format story_known certificate_known options given refusals before now outcome
+abbrev pub PlayComesTo : Option (List ℕ) → Option (List ℕ) → Manner → World → List SaveError → Option (List ℕ) → Option (List ℕ) → Outcome → Type 0
+PlayComesTo story_known certificate_known manner given refusals before now outcome =
+    PlayEnds interval_operations interval_format story_known certificate_known manner given refusals before now outcome ⊎ PlayEnds values_operations values_format story_known certificate_known manner given refusals before now outcome

@@ -4,7 +4,7 @@ use Rattle.zquetzal.specs.declared.error.SaveError.{SaveError}
 use Rattle.zfault.specs.Devices.{RisesByOne}
 use Rattle.zplayer.specs.Leniently.{Noted}
 use Rattle.zplayer.specs.World.{World}
-use Rattle.zplayer.specs.declared.end.Options.{Options}
+use Rattle.zprompt.specs.declared.manner.Manner.{Manner}
 use Rattle.zperform.specs.Accepting.{IsAcceptedStory, IsNoStory, IsUnacceptedStory, PlayComesTo}
 use Rattle.zperform.specs.Blaming.{IsUnread}
 use Rattle.zperform.specs.Devices.{Held, Says, Seen}
@@ -86,21 +86,21 @@ CountsBeside old new (besides.Accepted a) = new ≡ old
 CountsBeside old new (besides.Unaccepted certificate problem) = CountsUnread old new problem
 
 -- What a play comes to, by what became of the certificate: it is one by that, or one with everything tested, or none.
-abbrev pub ComesAside : Held → List ℕ → Aside → Options → World → List SaveError → Option (List ℕ) → Option (List ℕ) → Outcome → Type 0
-ComesAside files story Unsought options given refusals before now outcome =
+abbrev pub ComesAside : Held → List ℕ → Aside → Manner → World → List SaveError → Option (List ℕ) → Option (List ℕ) → Outcome → Type 0
+ComesAside files story Unsought manner given refusals before now outcome =
     (problem : Problem) × (outcome ≡ Stopped problem) × IsNoStory (files.known story) problem × (now ≡ before) × (refusals ≡ [])
-ComesAside files story Absent options given refusals before now outcome =
-    (files.known (name_of_certificate story) ≡ None) × ComesTo (files.known story) options given refusals before now outcome
-ComesAside files story Used options given refusals before now outcome =
+ComesAside files story Absent manner given refusals before now outcome =
+    (files.known (name_of_certificate story) ≡ None) × ComesTo (files.known story) manner given refusals before now outcome
+ComesAside files story Used manner given refusals before now outcome =
     ((a : AcceptedStory) × IsAcceptedStory (files.known story) (files.known (name_of_certificate story)) a)
-    × PlayComesTo (files.known story) (files.known (name_of_certificate story)) options given refusals before now outcome
-ComesAside files story (Unused blame problem) options given refusals before now outcome =
-    IsUnused files story blame problem × ComesTo (files.known story) options given refusals before now outcome
-ComesAside files story (Excused noted) options given refusals before now outcome = ⊥
+    × PlayComesTo (files.known story) (files.known (name_of_certificate story)) manner given refusals before now outcome
+ComesAside files story (Unused blame problem) manner given refusals before now outcome =
+    IsUnused files story blame problem × ComesTo (files.known story) manner given refusals before now outcome
+ComesAside files story (Excused noted) manner given refusals before now outcome = ⊥
 
 -- so it comes out; with no file for saves, files fail in no other way than is told
-pub record PlaysBeside (files later : Held) (story : List ℕ) (save : Option (List ℕ)) (aside : Aside) (options : Options) (given : World) (refusals : List SaveError) (before now : Option (List ℕ)) (outcome : Outcome) : Type 0 where
-  pub comes : ComesAside files story aside options given refusals before now outcome
+pub record PlaysBeside (files later : Held) (story : List ℕ) (save : Option (List ℕ)) (aside : Aside) (manner : Manner) (given : World) (refusals : List SaveError) (before now : Option (List ℕ)) (outcome : Outcome) : Type 0 where
+  pub comes : ComesAside files story aside manner given refusals before now outcome
   pub unfailed : is_failing aside ≡ false → save ≡ None → outcome ≢ Stopped (Failed File) → later.failures ≡ files.failures
 
 -- the certificate is told of, and then each save that is refused

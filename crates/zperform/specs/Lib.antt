@@ -23,5 +23,4 @@ pub mod Seeking
 pub mod Beside
 pub mod Performing
 pub mod Played
-pub mod Prompting
 pub mod Unpacking

@@ -8,6 +8,8 @@ use Rattle.zcommand.specs.CommandLine.{Asks, Request, ListStory, Find, FindEach,
 use Rattle.zquetzal.specs.declared.error.SaveError.{SaveError}
 use Rattle.zplayer.specs.Outside.{Blames, words_of}
 use Rattle.zplayer.specs.World.{Store, World, world}
+use Rattle.zprompt.specs.declared.manner.Manner.{Manner}
+use Rattle.zscreen.specs.declared.status_lines.StatusLines.{StatusLines}
 use Rattle.zperform.specs.Beside.{Aside, Unsought, PlaysBeside, SaysAll, spared_beside}
 use Rattle.zperform.specs.Blaming.{IsUnread, IsUnreadOf, IsUnreadOrUnwritten}
 use Rattle.zperform.specs.Devices.{Breaks, Devices, FlushesUnless, Held, Says, Seen, Takes, UsesUnless}
@@ -86,6 +88,10 @@ store_of (Some name) = record { kept = None; failures = 0; refusals = [] }
 abbrev pub given : Option (List ℕ) → ℕ → Store → World
 given input seed store = world input (Some (words_of seed)) store
 
+-- how a play is done: in so many steps, with status lines so, and with the player's own commands or with none
+abbrev pub manner_of : ℕ → StatusLines → Bool → Manner
+manner_of budget status commands = record { options = record { budget = budget; status = status }; commands = commands }
+
 -- what is looked for
 abbrev pub sought : Option ℕ → Bool → Bool → Bool → Search
 sought frames strict places json = record { frames = frames; strict = strict; places = places; json = json }
@@ -96,35 +102,35 @@ pub record RefusesMany (held holds : List ℕ → Option (List ℕ)) (before now
   pub files_stay : holds ≡ held
   pub nothing_said : now ≡ before
 
--- what comes of a request, with the files before and now, with the input, with what became of the certificate beside a story that is played
--- with none named, with why saves were refused, the newest first, and with
--- what the writer took before and has taken now
-abbrev pub Comes : Request → Held → Held → Option (List ℕ) → Aside → List SaveError → Option (List ℕ) → Option (List ℕ) → Outcome → Type 0
-Comes (ListStory story None json) files later input aside refusals before now outcome = ListComesTo json (files.known story) before now outcome
-Comes (ListStory story (Some certificate) json) files later input aside refusals before now outcome = ListByComesTo json (files.known story) (files.known certificate) before now outcome
-Comes (Find story certificate frames strict places force json) files later input aside refusals before now outcome =
+-- What comes of a request, where a play has the player's own commands or none, with the files before and now, with the input, with what became
+-- of the certificate beside a story that is played with none named, with why saves were refused, the newest first, and with what the writer
+-- took before and has taken now. A lenient play has no commands.
+abbrev pub Comes : Bool → Request → Held → Held → Option (List ℕ) → Aside → List SaveError → Option (List ℕ) → Option (List ℕ) → Outcome → Type 0
+Comes commands (ListStory story None json) files later input aside refusals before now outcome = ListComesTo json (files.known story) before now outcome
+Comes commands (ListStory story (Some certificate) json) files later input aside refusals before now outcome = ListByComesTo json (files.known story) (files.known certificate) before now outcome
+Comes commands (Find story certificate frames strict places force json) files later input aside refusals before now outcome =
     FindOneComesTo (sought frames strict places json) force story certificate files later before now outcome
-Comes (FindEach stories frames strict places force json) files later input aside refusals before now outcome =
+Comes commands (FindEach stories frames strict places force json) files later input aside refusals before now outcome =
     FindEachComesTo (sought frames strict places json) force None stories files later before now outcome
-Comes NotOne files later input aside refusals before now outcome = RefusesMany files.known later.known before now outcome
-Comes (Check story certificate false) files later input aside refusals before now outcome = CheckComesTo (files.known story) (files.known certificate) before now outcome
-Comes (Check story certificate true) files later input aside refusals before now outcome = CheckEachComesTo true (Some certificate) (story ∷ []) files later before now outcome
-Comes (CheckEach stories json) files later input aside refusals before now outcome = CheckEachComesTo json None stories files later before now outcome
-Comes (Show story certificate address) files later input aside refusals before now outcome = ShowComesTo (files.known story) (files.known certificate) address before now outcome
-Comes (Play story certificate seed budget status save tell force true) files later input aside refusals before now outcome =
+Comes commands NotOne files later input aside refusals before now outcome = RefusesMany files.known later.known before now outcome
+Comes commands (Check story certificate false) files later input aside refusals before now outcome = CheckComesTo (files.known story) (files.known certificate) before now outcome
+Comes commands (Check story certificate true) files later input aside refusals before now outcome = CheckEachComesTo true (Some certificate) (story ∷ []) files later before now outcome
+Comes commands (CheckEach stories json) files later input aside refusals before now outcome = CheckEachComesTo json None stories files later before now outcome
+Comes commands (Show story certificate address) files later input aside refusals before now outcome = ShowComesTo (files.known story) (files.known certificate) address before now outcome
+Comes commands (Play story certificate seed budget status save tell force true) files later input aside refusals before now outcome =
     PlaysExcused files story certificate aside (record { budget = budget; status = status }) (given input seed (store_of save)) refusals before now outcome
-Comes (Play story None seed budget status save tell force false) files later input aside refusals before now outcome =
-    PlaysBeside files later story save aside (record { budget = budget; status = status }) (given input seed (store_of save)) refusals before now outcome
-Comes (Play story (Some certificate) seed budget status save tell force false) files later input aside refusals before now outcome =
-    PlayComesTo (files.known story) (files.known certificate) (record { budget = budget; status = status }) (given input seed (store_of save)) refusals before now outcome
-Comes (Info story json) files later input aside refusals before now outcome = InfoComesTo json story files.known before now outcome
-Comes (Explain code json) files later input aside refusals before now outcome = ExplainComesTo code json before now outcome
-Comes (Unpack story save out force) files later input aside refusals before now outcome = UnpackComesTo story save out files.known later.known before now outcome
+Comes commands (Play story None seed budget status save tell force false) files later input aside refusals before now outcome =
+    PlaysBeside files later story save aside (manner_of budget status commands) (given input seed (store_of save)) refusals before now outcome
+Comes commands (Play story (Some certificate) seed budget status save tell force false) files later input aside refusals before now outcome =
+    PlayComesTo (files.known story) (files.known certificate) (manner_of budget status commands) (given input seed (store_of save)) refusals before now outcome
+Comes commands (Info story json) files later input aside refusals before now outcome = InfoComesTo json story files.known before now outcome
+Comes commands (Explain code json) files later input aside refusals before now outcome = ExplainComesTo code json before now outcome
+Comes commands (Unpack story save out force) files later input aside refusals before now outcome = UnpackComesTo story save out files.known later.known before now outcome
 
 -- A request is done where its file may be written over. Else that is told, and nothing is done.
-abbrev pub Begins : Request → Held → Held → Option (List ℕ) → Aside → List SaveError → Option (List ℕ) → Option (List ℕ) → Outcome → Type 0
-Begins request files later input aside refusals before now outcome =
-    (MayWrite request files.known × Comes request files later input aside refusals before now outcome)
+abbrev pub Begins : Bool → Request → Held → Held → Option (List ℕ) → Aside → List SaveError → Option (List ℕ) → Option (List ℕ) → Outcome → Type 0
+Begins commands request files later input aside refusals before now outcome =
+    (MayWrite request files.known × Comes commands request files later input aside refusals before now outcome)
     ⊎ ((problem : Problem) × (outcome ≡ Stopped problem) × IsOccupied request files.known problem × (aside ≡ Unsought) × (later.known ≡ files.known) × (now ≡ before))
 
 -- a request whose answer needs no input
@@ -209,12 +215,13 @@ abbrev pub spoken : Speech → Request → Request
 spoken Words (Play story certificate seed budget status save tell force lenient) = Play story certificate seed budget status save true force lenient
 spoken speech request = request
 
--- A request, with the values among clap's matches: what it comes to is reported, if its file may be written over, behind what is said of a certificate that stands beside a story
--- and isn't used, and a line of each save that was refused, where those are asked for. The writer is blamed just where it failed, and
--- so are the reader, which isn't asked but for a play, and the files, unless saves are kept in one, or a certificate beside a story: then they may fail, and the
--- play goes on. A failure of files is one of a file that the request names, and it is the one that is told of. No file is written but the one for saves or for a certificate that is
--- found. What was written is flushed unless the writer failed.
-pub record Does (words : List Text) (speech : Speech) (status : ℕ) (old new : Devices) : Type 0 where
+-- A request, with the values among clap's matches: what it comes to, with the player's own commands or with none if it is a play, is reported,
+-- if its file may be written over, behind what is said of a certificate that stands beside a story and isn't used, and a line of each save that was
+-- refused, where those are asked for. The writer is blamed just where it failed, and so are the reader, which isn't asked but for a play, and the
+-- files, unless saves are kept in one, or a certificate beside a story: then they may fail, and the play goes on. A failure of files is one of a file
+-- that the request names, and it is the one that is told of. No file is written but the one for saves or for a certificate that is found. What was
+-- written is flushed unless the writer failed.
+pub record Does (words : List Text) (speech : Speech) (commands : Bool) (status : ℕ) (old new : Devices) : Type 0 where
   pub matches : Text × List Row
   pub named : subcommand_of zpc_app words ≡ Some matches
   pub asked : Request
@@ -224,7 +231,7 @@ pub record Does (words : List Text) (speech : Speech) (status : ℕ) (old new : 
   pub outcome : Outcome
   pub aside : Aside
   pub refusals : List SaveError
-  pub comes : Begins request old.files new.files old.reader.remaining aside refusals old.writer.contents new.writer.contents outcome
+  pub comes : Begins commands request old.files new.files old.reader.remaining aside refusals old.writer.contents new.writer.contents outcome
   pub writer : FlushesUnless (λ (s : Seen). s.failures) (λ (s : Seen). s.waits) old.writer new.writer (outcome ≡ Stopped (Failed Write))
   pub files : is_each request ≡ false → UsesUnless (λ (f : Held). f.known) (λ (f : Held). f.failures) old.files new.files (spared_in request) (written_by request) (outcome ≡ Stopped (Failed File))
   pub could : outcome ≡ Stopped (Failed File) → IsBlamed request old.files
@@ -236,5 +243,5 @@ pub record Does (words : List Text) (speech : Speech) (status : ℕ) (old new : 
   pub reported : Reports speech new.files.blamed outcome status between new.errors
 
 -- the request of the words was done, as far as there was memory to read them
-abbrev pub Performs : List Text → Speech → ℕ → Devices → Devices → Type 0
-Performs words speech status old new = Does words speech status old new ⊎ Lacks status old new
+abbrev pub Performs : List Text → Speech → Bool → ℕ → Devices → Devices → Type 0
+Performs words speech commands status old new = Does words speech commands status old new ⊎ Lacks status old new

@@ -7,7 +7,7 @@ use Rattle.zplayer.specs.World.{Kept, Store, World, told, world}
 use Rattle.zcheck.specs.declared.judged.Judged.{Judged}
 use Rattle.zcheck.specs.declared.judged.Judged.TheVariants.{Whole, Marked}
 use Rattle.zplayer.specs.declared.end.End.{End}
-use Rattle.zplayer.specs.declared.end.Options.{Options}
+use Rattle.zprompt.specs.declared.manner.Manner.{Manner}
 use Rattle.zplayer.specs.declared.outside.World.{World as Lent}
 use Rattle.zperform.specs.Devices.{Seen}
 use Rattle.zperform.specs.Performing.{given, store_of}
@@ -24,9 +24,9 @@ abbrev pub Account : Type 1
 Account = World → List SaveError → Option (List ℕ) → Option (List ℕ) → Outcome → Type 0
 
 -- what is said of a play of what is accepted, with marks or without
-abbrev pub ComesOfEither : {A M : Type 0} → (A → Options → Noted → Account) → (M → Options → Noted → Account) → Judged A M → Options → Noted → Account
-ComesOfEither whole marked (Whole a) options noted = whole a options noted
-ComesOfEither whole marked (Marked m) options noted = marked m options noted
+abbrev pub ComesOfEither : {A M : Type 0} → (A → Manner → Noted → Account) → (M → Manner → Noted → Account) → Judged A M → Manner → Noted → Account
+ComesOfEither whole marked (Whole a) manner noted = whole a manner noted
+ComesOfEither whole marked (Marked m) manner noted = marked m manner noted
 
 -- the name of the file that the saves of a play are kept in, if it has one
 abbrev pub file_of : Asked → Option (List ℕ)

@@ -10,11 +10,12 @@ use Rattle.zstate.specs.State.{State, opening}
 use Rattle.zref.specs.Machine.{setting_of}
 use Rattle.zref.specs.declared.scope.Scope.TheVariants.{All}
 use Rattle.zplayer.specs.declared.end.End.{End}
-use Rattle.zplayer.specs.declared.end.Options.{Options}
+use Rattle.zprompt.specs.declared.manner.Manner.{Manner}
 use Rattle.zplayer.specs.declared.end.PlayError.{PlayError}
 use Rattle.zplayer.specs.declared.end.PlayError.TheVariants as errors
 use Rattle.zplayer.specs.Outside.{Coming}
-use Rattle.zplayer.specs.Playing.{WantsOrSaves, ComesTo as PlayComes}
+use Rattle.zplayer.specs.Playing.{WantsOrSaves}
+use Rattle.zprompt.specs.Manners.{ComesTo as PlayComes}
 use Rattle.zplayer.specs.World.{Store, World}
 use Rattle.zperform.specs.Contents.{HasBytes}
 use Rattle.zperform.specs.declared.outcome.Failure.TheVariants.{File, Read, Write, Memory}
@@ -34,13 +35,13 @@ StaysEmpty old new = old.kept ≡ Some None → new.kept ≡ Some None
 
 -- the story that a file holds was played from its opening, with every place of it in scope, and came to this; the saves that were refused
 -- were so for these causes, the newest first
-pub record IsPlayed (file : List ℕ) (options : Options) (given : World) (refusals : List SaveError) (before now : Option (List ℕ)) (result : Result End PlayError) : Type 0 where
+pub record IsPlayed (file : List ℕ) (manner : Manner) (given : World) (refusals : List SaveError) (before now : Option (List ℕ)) (result : Result End PlayError) : Type 0 where
   pub story : LoadedStory
   pub holds : Holds file story
   pub state : State
   pub words : Option Coming
   pub store : Store
-  pub comes : PlayComes (setting_of story All) (λ _. ⊤) (WantsOrSaves (setting_of story All)) options given (opening story) state words store before now result
+  pub comes : PlayComes (setting_of story All) (λ _. ⊤) (WantsOrSaves (setting_of story All)) manner given (opening story) state words store before now result
   pub unsaved : StaysEmpty given.store store
   pub refused : store.refusals ≡ refusals
 
@@ -61,12 +62,12 @@ Reads known property = (file : List ℕ) × IfSome known (λ bytes. file ≡ byt
 
 -- What playing a file comes to, where its bytes are known, with what the world gives for it, with why saves were refused,
 -- the newest first, and with what the writer took before and has taken now. Memory is wanted only for a file that has bytes.
-abbrev pub ComesTo : Option (List ℕ) → Options → World → List SaveError → Option (List ℕ) → Option (List ℕ) → Outcome → Type 0
-ComesTo known options given refusals before now (Played end) = Reads known (λ file. IsPlayed file options given refusals before now (Ok end))
-ComesTo known options given refusals before now (Stopped (Refused error)) = Reads known (λ file. IsRefused file error) × (now ≡ before) × (refusals ≡ [])
-ComesTo known options given refusals before now (Stopped (Failed File)) = (now ≡ before) × (refusals ≡ [])
-ComesTo known options given refusals before now (Stopped (Failed Read)) = Reads known (λ file. IsPlayed file options given refusals before now (Err errors.Read))
-ComesTo known options given refusals before now (Stopped (Failed Write)) = Reads known (λ file. IsPlayed file options given refusals before now (Err errors.Write))
-ComesTo known options given refusals before now (Stopped (Failed Memory)) =
-    ((now ≡ before) × (refusals ≡ []) × HasBytes known) ⊎ Reads known (λ file. IsPlayed file options given refusals before now (Err errors.OutOfMemory))
-ComesTo known options given refusals before now outcome = ⊥
+abbrev pub ComesTo : Option (List ℕ) → Manner → World → List SaveError → Option (List ℕ) → Option (List ℕ) → Outcome → Type 0
+ComesTo known manner given refusals before now (Played end) = Reads known (λ file. IsPlayed file manner given refusals before now (Ok end))
+ComesTo known manner given refusals before now (Stopped (Refused error)) = Reads known (λ file. IsRefused file error) × (now ≡ before) × (refusals ≡ [])
+ComesTo known manner given refusals before now (Stopped (Failed File)) = (now ≡ before) × (refusals ≡ [])
+ComesTo known manner given refusals before now (Stopped (Failed Read)) = Reads known (λ file. IsPlayed file manner given refusals before now (Err errors.Read))
+ComesTo known manner given refusals before now (Stopped (Failed Write)) = Reads known (λ file. IsPlayed file manner given refusals before now (Err errors.Write))
+ComesTo known manner given refusals before now (Stopped (Failed Memory)) =
+    ((now ≡ before) × (refusals ≡ []) × HasBytes known) ⊎ Reads known (λ file. IsPlayed file manner given refusals before now (Err errors.OutOfMemory))
+ComesTo known manner given refusals before now outcome = ⊥

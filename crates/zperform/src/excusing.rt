@@ -22,7 +22,8 @@ use crate::playing::{Asked, Devices, Playable, play_saving};
 use crate::wording::add_short;
 use std::alloc::{AllocError, Global};
 use zfault::{Sink, Source};
-use zplayer::{Answered, End, Lenience, Notes, Options, SaveStore, Words, World, play_leniently};
+use zplayer::{Answered, End, Lenience, Notes, SaveStore, Words, World, play_leniently};
+use zprompt::Manner;
 use zref::{CheckedMachine, Scope};
 use zstory::Story;
 
@@ -32,19 +33,19 @@ struct Excused<'a> {
     story: &'a Story,
 }
 
-/// It is checked as it is played.
+/// It is checked as it is played, with no commands of the player's own.
 impl Playable for Excused<'_> {
-    ghost Comes = { λ excused options noted given refusals before now outcome. (known : Option (List ℕ)) → HoldsStory known excused.story.now → ExcusedOut known options noted given refusals before now outcome };
+    ghost Comes = { λ excused manner noted given refusals before now outcome. (known : Option (List ℕ)) → HoldsStory known excused.story.now → ExcusedOut known manner.options noted given refusals before now outcome };
 
     fn play<R: Source, W: Sink, S: SaveStore, G: Words>(
         &self,
         alloc: Global,
-        options: Options,
+        manner: Manner,
         lenience: &mut Lenience,
         world: &mut World<'_, R, W, S, G>,
     ) -> Result<End, Problem> {
         let mut machine = CheckedMachine::new(alloc, self.story, Scope::All)?;
-        let end = play_leniently(alloc, &mut machine, world, lenience, options)?;
+        let end = play_leniently(alloc, &mut machine, world, lenience, manner.options)?;
         Ok(end)
     }
 }
@@ -59,7 +60,7 @@ pub fn play_excused<F: Files, R: Source, W: Sink, E: Sink>(
     devices: &mut Devices<'_, F, R, W, E>,
 ) -> Result<End, Problem>
     ensures devices { SameDevices devices.old devices.new }
-    ensures comes { (aside : Aside) × (refusals : List ARefusal) × PlaysExcused (held F.known F.failures F.can_fail F.blamed devices.old.files.now) story.now (option_map (λ c. c.now) certificate.entry) aside asked.entry.options (given (R.remaining devices.old.reader.now) asked.entry.seed (store_of (file_of asked.entry))) refusals (W.contents devices.old.writer.now) (W.contents devices.new.writer.now) (outcome_of result) × SaysExcused aside (said_of asked.entry.tell (file_of asked.entry) refusals) (seen E.contents E.failures E.waits devices.old.errors.now) (seen E.contents E.failures E.waits devices.new.errors.now) }
+    ensures comes { (aside : Aside) × (refusals : List ARefusal) × PlaysExcused (held F.known F.failures F.can_fail F.blamed devices.old.files.now) story.now (option_map (λ c. c.now) certificate.entry) aside asked.entry.manner.options (given (R.remaining devices.old.reader.now) asked.entry.seed (store_of (file_of asked.entry))) refusals (W.contents devices.old.writer.now) (W.contents devices.new.writer.now) (outcome_of result) × SaysExcused aside (said_of asked.entry.tell (file_of asked.entry) refusals) (seen E.contents E.failures E.waits devices.old.errors.now) (seen E.contents E.failures E.waits devices.new.errors.now) }
     ensures writer { FlushesUnless W.failures W.waits devices.old.writer.now devices.new.writer.now (IsErrOf result (Problem.Failed Failure.Write)) }
     ensures files { UsesUnless F.known F.failures devices.old.files.now devices.new.files.now (file_of asked.entry) (file_of asked.entry) (IsErrOf result (Problem.Failed Failure.File)) }
     ensures could { IsErrOf result (Problem.Failed Failure.File) → CanFailOf (held F.known F.failures F.can_fail F.blamed devices.old.files.now) story.now (option_map (λ c. c.now) certificate.entry) }
@@ -86,7 +87,7 @@ fn play_noting<F: Files, R: Source, W: Sink, E: Sink>(
     devices: &mut Devices<'_, F, R, W, E>,
 ) -> Result<End, Problem>
     ensures devices { SameDevices devices.old devices.new }
-    ensures comes { (known : Option (List ℕ)) → HoldsStory known story.now → (noted : Noted) × (refusals : List ARefusal) × ExcusedOut known asked.entry.options noted (given (R.remaining devices.old.reader.now) asked.entry.seed (store_of (file_of asked.entry))) refusals (W.contents devices.old.writer.now) (W.contents devices.new.writer.now) (outcome_of result) × SaysBoth (said_of asked.entry.tell (file_of asked.entry) refusals) noted (seen E.contents E.failures E.waits devices.old.errors.now) (seen E.contents E.failures E.waits devices.new.errors.now) }
+    ensures comes { (known : Option (List ℕ)) → HoldsStory known story.now → (noted : Noted) × (refusals : List ARefusal) × ExcusedOut known asked.entry.manner.options noted (given (R.remaining devices.old.reader.now) asked.entry.seed (store_of (file_of asked.entry))) refusals (W.contents devices.old.writer.now) (W.contents devices.new.writer.now) (outcome_of result) × SaysBoth (said_of asked.entry.tell (file_of asked.entry) refusals) noted (seen E.contents E.failures E.waits devices.old.errors.now) (seen E.contents E.failures E.waits devices.new.errors.now) }
     ensures writer { FlushesUnless W.failures W.waits devices.old.writer.now devices.new.writer.now (IsErrOf result (Problem.Failed Failure.Write)) }
     ensures no_file { ¬ IsErrOf result (Problem.Failed Failure.File) }
     ensures reader { Blames (IsErrOf result (Problem.Failed Failure.Read)) (R.failures devices.old.reader.now) (R.failures devices.new.reader.now) }

@@ -37,6 +37,7 @@ use std::alloc::Global;
 use zcommand::{Command, command_of, read_words};
 use zfault::{Failed, Sink, Source, write_whole};
 use zplayer::{End, Options};
+use zprompt::Manner;
 
 /// The exit status where the words are wrong.
 const USAGE: u8 = 2;
@@ -52,26 +53,28 @@ For more information, try '--help'.
 /// Does what the words after the program's name ask for, and answers the exit status. What a story shows, and help
 /// that was asked for, go to the writer; a line on anything else goes to `errors`, where a failure is ignored. Both are flushed. Where a
 /// play is to tell of saves that are refused, as it is on a terminal, their lines come before that of its end.
-/// The reader gives a story its lines, and isn't touched but for a play.
+/// The reader gives a story its lines, and isn't touched but for a play. With `commands` a line of it that begins with a `/` is a command of
+/// the player's own, which the story never sees; a lenient play has none.
 ///
 /// What is wrong is found in this order: the words, a file that isn't to be written over, the story, its certificate, the work.
 pub fn perform<F: Files, R: Source, W: Sink, E: Sink>(
     alloc: Global,
     words: &[&str],
     speech: Speech,
+    commands: bool,
     files: &mut F,
     reader: &mut R,
     writer: &mut W,
     errors: &mut E,
 ) -> u8
-    ensures performs { fault_of zpc_app (texts words.entry.now) ≡ [] → Performs (texts words.entry.now) speech result (devices (held F.known F.failures F.can_fail F.blamed files.old) (told R.remaining R.failures reader.old) (seen W.contents W.failures W.waits writer.old) (seen E.contents E.failures E.waits errors.old)) (devices (held F.known F.failures F.can_fail F.blamed files.new) (told R.remaining R.failures reader.new) (seen W.contents W.failures W.waits writer.new) (seen E.contents E.failures E.waits errors.new)) }
+    ensures performs { fault_of zpc_app (texts words.entry.now) ≡ [] → Performs (texts words.entry.now) speech commands result (devices (held F.known F.failures F.can_fail F.blamed files.old) (told R.remaining R.failures reader.old) (seen W.contents W.failures W.waits writer.old) (seen E.contents E.failures E.waits errors.old)) (devices (held F.known F.failures F.can_fail F.blamed files.new) (told R.remaining R.failures reader.new) (seen W.contents W.failures W.waits writer.new) (seen E.contents E.failures E.waits errors.new)) }
     ensures explains { fault_of zpc_app (texts words.entry.now) ≢ [] → Explains (fault_of zpc_app (texts words.entry.now)) result (devices (held F.known F.failures F.can_fail F.blamed files.old) (told R.remaining R.failures reader.old) (seen W.contents W.failures W.waits writer.old) (seen E.contents E.failures E.waits errors.old)) (devices (held F.known F.failures F.can_fail F.blamed files.new) (told R.remaining R.failures reader.new) (seen W.contents W.failures W.waits writer.new) (seen E.contents E.failures E.waits errors.new)) }
 {
     match read_words(alloc, words) {
         Ok(matches) => {
             let asked = command_of(&matches);
             let command = spoken(asked, speech);
-            let outcome = carry_out(alloc, command, files, reader, writer, errors);
+            let outcome = carry_out(alloc, command, commands, files, reader, writer, errors);
             files.clear();
             report(alloc, &outcome, speech, files.blame(), errors)
         }
@@ -117,13 +120,14 @@ fn spoken<'s, 'a>(command: Command<'s, 'a>, speech: Speech) -> Command<'s, 'a>
 fn carry_out<F: Files, R: Source, W: Sink, E: Sink>(
     alloc: Global,
     command: Command<'_, '_>,
+    commands: bool,
     files: &mut F,
     reader: &mut R,
     writer: &mut W,
     errors: &mut E,
 ) -> Outcome
     requires low { IsLow command }
-    ensures comes { (aside : Aside) × (refusals : List ARefusal) × Begins (request_of command.entry) (held F.known F.failures F.can_fail F.blamed files.old) (held F.known F.failures F.can_fail F.blamed files.new) (R.remaining reader.old) aside refusals (W.contents writer.old) (W.contents writer.new) result × SaysFor (request_of command.entry) aside refusals (seen E.contents E.failures E.waits errors.old) (seen E.contents E.failures E.waits errors.new) }
+    ensures comes { (aside : Aside) × (refusals : List ARefusal) × Begins commands (request_of command.entry) (held F.known F.failures F.can_fail F.blamed files.old) (held F.known F.failures F.can_fail F.blamed files.new) (R.remaining reader.old) aside refusals (W.contents writer.old) (W.contents writer.new) result × SaysFor (request_of command.entry) aside refusals (seen E.contents E.failures E.waits errors.old) (seen E.contents E.failures E.waits errors.new) }
     ensures writer { FlushesUnless W.failures W.waits writer.old writer.new (result ≡ Outcome.Stopped (Problem.Failed Failure.Write)) }
     ensures files { is_each (request_of command.entry) ≡ false → UsesUnless F.known F.failures files.old files.new (spared_in (request_of command.entry)) (written_by (request_of command.entry)) (result ≡ Outcome.Stopped (Problem.Failed Failure.File)) }
     ensures could { result ≡ Outcome.Stopped (Problem.Failed Failure.File) → IsBlamed (request_of command.entry) (held F.known F.failures F.can_fail F.blamed files.old) }
@@ -133,7 +137,7 @@ fn carry_out<F: Files, R: Source, W: Sink, E: Sink>(
 {
     match occupied(command, files) {
         Some(purpose) => Outcome::Stopped(Problem::Occupied(purpose)),
-        None => fulfil(alloc, command, files, reader, writer, errors),
+        None => fulfil(alloc, command, commands, files, reader, writer, errors),
     }
 }
 
@@ -179,13 +183,14 @@ fn kept_by<'a>(command: Command<'_, 'a>) -> Option<(&'a str, Purpose)>
 fn fulfil<F: Files, R: Source, W: Sink, E: Sink>(
     alloc: Global,
     command: Command<'_, '_>,
+    commands: bool,
     files: &mut F,
     reader: &mut R,
     writer: &mut W,
     errors: &mut E,
 ) -> Outcome
     requires low { IsLow command }
-    ensures comes { (aside : Aside) × (refusals : List ARefusal) × Comes (request_of command.entry) (held F.known F.failures F.can_fail F.blamed files.old) (held F.known F.failures F.can_fail F.blamed files.new) (R.remaining reader.old) aside refusals (W.contents writer.old) (W.contents writer.new) result × SaysFor (request_of command.entry) aside refusals (seen E.contents E.failures E.waits errors.old) (seen E.contents E.failures E.waits errors.new) }
+    ensures comes { (aside : Aside) × (refusals : List ARefusal) × Comes commands (request_of command.entry) (held F.known F.failures F.can_fail F.blamed files.old) (held F.known F.failures F.can_fail F.blamed files.new) (R.remaining reader.old) aside refusals (W.contents writer.old) (W.contents writer.new) result × SaysFor (request_of command.entry) aside refusals (seen E.contents E.failures E.waits errors.old) (seen E.contents E.failures E.waits errors.new) }
     ensures writer { FlushesUnless W.failures W.waits writer.old writer.new (result ≡ Outcome.Stopped (Problem.Failed Failure.Write)) }
     ensures files { is_each (request_of command.entry) ≡ false → UsesUnless F.known F.failures files.old files.new (spared_in (request_of command.entry)) (written_by (request_of command.entry)) (result ≡ Outcome.Stopped (Problem.Failed Failure.File)) }
     ensures could { result ≡ Outcome.Stopped (Problem.Failed Failure.File) → IsBlamed (request_of command.entry) (held F.known F.failures F.can_fail F.blamed files.old) }
@@ -267,10 +272,13 @@ fn fulfil<F: Files, R: Source, W: Sink, E: Sink>(
             lenient,
             ..
         } => {
-            let options = Options { budget, status };
+            let manner = Manner {
+                options: Options { budget, status },
+                commands,
+            };
             let asked = Asked {
                 seed,
-                options,
+                manner,
                 save,
                 tell,
             };

@@ -5,7 +5,7 @@ ghost use Rattle.zplayer.specs.Devices.{SameDevices as SameWorld};
 ghost use Rattle.zlenient.specs.Front.{opened};
 ghost use Rattle.zplayer.specs.Leniently.{Noted};
 ghost use Rattle.zplayer.specs.Outside.{Blames};
-ghost use Rattle.zplayer.specs.declared.end.Options.{Options as HowToPlay};
+ghost use Rattle.zprompt.specs.declared.manner.Manner.{Manner as HowToPlay};
 ghost use Rattle.zperform.specs.Blaming.{IsUnread, IsUnreadOf};
 ghost use Rattle.zperform.specs.Accepting.{IsAccepted, IsAcceptedStory, IsMarkedOf, IsOfEither, PlayComesTo, PlayEnds};
 ghost use Rattle.zperform.specs.Beside.{Aside, PlaysBeside, SaysAll, spared_beside};
@@ -28,7 +28,8 @@ use zcert::Spelled;
 use zcheck::{Accepted, Judged, Marked};
 use zfault::{Sink, Source};
 use zplay::Session;
-use zplayer::{End, Lenience, Options, SaveStore, Seeded, Words, World, play_checked, play_story};
+use zplayer::{End, Lenience, SaveStore, Seeded, Words, World};
+use zprompt::{Manner, play_checked_in, play_story_in};
 use zref::{CheckedMachine, Scope};
 use zstory::Story;
 
@@ -37,8 +38,8 @@ use zstory::Story;
 pub struct Asked<'a> {
     /// What its random words come of.
     pub seed: u64,
-    /// How it is played.
-    pub options: Options,
+    /// How it is played, with the player's own commands or with none.
+    pub manner: Manner,
     /// The name of the file for its saves. With none each save fails.
     pub save: Option<&'a str>,
     /// Whether it tells of saves that are refused.
@@ -89,13 +90,13 @@ pub trait Playable {
     fn play<R: Source, W: Sink, S: SaveStore, G: Words>(
         &self,
         alloc: Global,
-        options: Options,
+        manner: Manner,
         lenience: &mut Lenience,
         world: &mut World<'_, R, W, S, G>,
     ) -> Result<End, Problem>
         requires opened { lenience.old ≡ record { front = opened; notes = none_noted } }
         ensures devices { SameWorld world.old world.new }
-        ensures comes { ComesOutIn R.remaining G.coming S.kept S.failures W.contents S.Follows (Comes self.now options lenience.new.notes) world.old world.new result }
+        ensures comes { ComesOutIn R.remaining G.coming S.kept S.failures W.contents S.Follows (Comes self.now manner lenience.new.notes) world.old world.new result }
         ensures writer { FlushesUnless W.failures W.waits world.old.writer.now world.new.writer.now (IsErrOf result (Problem.Failed Failure.Write)) }
         ensures no_file { ¬ IsErrOf result (Problem.Failed Failure.File) }
         ensures reader { Blames (IsErrOf result (Problem.Failed Failure.Read)) (R.failures world.old.reader.now) (R.failures world.new.reader.now) };
@@ -103,52 +104,52 @@ pub trait Playable {
 
 /// A story is checked as it is played.
 impl Playable for Story {
-    ghost Comes = { λ story options noted given refusals before now outcome. (file : List ℕ) → Holds file story → ComesTo (Some file) options given refusals before now outcome };
+    ghost Comes = { λ story manner noted given refusals before now outcome. (file : List ℕ) → Holds file story → ComesTo (Some file) manner given refusals before now outcome };
 
     fn play<R: Source, W: Sink, S: SaveStore, G: Words>(
         &self,
         alloc: Global,
-        options: Options,
+        manner: Manner,
         _lenience: &mut Lenience,
         world: &mut World<'_, R, W, S, G>,
     ) -> Result<End, Problem> {
         let mut machine = CheckedMachine::new(alloc, self, Scope::All)?;
-        let end = play_checked(alloc, &mut machine, world, options)?;
+        let end = play_checked_in(alloc, &mut machine, world, manner)?;
         Ok(end)
     }
 }
 
 /// One that is accepted meets no fault.
 impl<V: Spelled> Playable for Accepted<V> {
-    ghost Comes = { λ accepted options noted given refusals before now outcome. (story certificate : Option (List ℕ)) → IsAccepted V.operations V.format story certificate accepted → PlayEnds V.operations V.format story certificate options given refusals before now outcome };
+    ghost Comes = { λ accepted manner noted given refusals before now outcome. (story certificate : Option (List ℕ)) → IsAccepted V.operations V.format story certificate accepted → PlayEnds V.operations V.format story certificate manner given refusals before now outcome };
 
     fn play<R: Source, W: Sink, S: SaveStore, G: Words>(
         &self,
         alloc: Global,
-        options: Options,
+        manner: Manner,
         _lenience: &mut Lenience,
         world: &mut World<'_, R, W, S, G>,
     ) -> Result<End, Problem> {
         let mut session = Session::start(alloc, self)?;
-        let end = play_story(alloc, &mut session, world, options)?;
+        let end = play_story_in(alloc, &mut session, world, manner)?;
         Ok(end)
     }
 }
 
 /// One that is accepted but where it is marked is checked as it is played, with as many frames as its certificate says.
 impl<V: Spelled> Playable for Marked<V> {
-    ghost Comes = { λ marked options noted given refusals before now outcome. (story certificate : Option (List ℕ)) → IsMarkedOf V.operations V.format story certificate marked → PlayEnds V.operations V.format story certificate options given refusals before now outcome };
+    ghost Comes = { λ marked manner noted given refusals before now outcome. (story certificate : Option (List ℕ)) → IsMarkedOf V.operations V.format story certificate marked → PlayEnds V.operations V.format story certificate manner given refusals before now outcome };
 
     fn play<R: Source, W: Sink, S: SaveStore, G: Words>(
         &self,
         alloc: Global,
-        options: Options,
+        manner: Manner,
         _lenience: &mut Lenience,
         world: &mut World<'_, R, W, S, G>,
     ) -> Result<End, Problem> {
         let limit = self.certificate().frame_limit();
         let mut machine = CheckedMachine::new(alloc, self.story(), Scope::Within(limit))?;
-        let end = play_checked(alloc, &mut machine, world, options)?;
+        let end = play_checked_in(alloc, &mut machine, world, manner)?;
         Ok(end)
     }
 }
@@ -160,13 +161,13 @@ impl<A: Playable, M: Playable> Playable for Judged<A, M> {
     fn play<R: Source, W: Sink, S: SaveStore, G: Words>(
         &self,
         alloc: Global,
-        options: Options,
+        manner: Manner,
         lenience: &mut Lenience,
         world: &mut World<'_, R, W, S, G>,
     ) -> Result<End, Problem> {
         match self {
-            Judged::Whole(accepted) => accepted.play(alloc, options, lenience, world),
-            Judged::Marked(marked) => marked.play(alloc, options, lenience, world),
+            Judged::Whole(accepted) => accepted.play(alloc, manner, lenience, world),
+            Judged::Marked(marked) => marked.play(alloc, manner, lenience, world),
         }
     }
 }
@@ -180,7 +181,7 @@ pub fn play<F: Files, R: Source, W: Sink, E: Sink>(
     devices: &mut Devices<'_, F, R, W, E>,
 ) -> Result<End, Problem>
     ensures devices { SameDevices devices.old devices.new }
-    ensures comes { (aside : Aside) × (refusals : List ARefusal) × PlaysBeside (held F.known F.failures F.can_fail F.blamed devices.old.files.now) (held F.known F.failures F.can_fail F.blamed devices.new.files.now) name.now (file_of asked.entry) aside asked.entry.options (given (R.remaining devices.old.reader.now) asked.entry.seed (store_of (file_of asked.entry))) refusals (W.contents devices.old.writer.now) (W.contents devices.new.writer.now) (outcome_of result) × SaysAll name.now aside (said_of asked.entry.tell (file_of asked.entry) refusals) (seen E.contents E.failures E.waits devices.old.errors.now) (seen E.contents E.failures E.waits devices.new.errors.now) }
+    ensures comes { (aside : Aside) × (refusals : List ARefusal) × PlaysBeside (held F.known F.failures F.can_fail F.blamed devices.old.files.now) (held F.known F.failures F.can_fail F.blamed devices.new.files.now) name.now (file_of asked.entry) aside asked.entry.manner (given (R.remaining devices.old.reader.now) asked.entry.seed (store_of (file_of asked.entry))) refusals (W.contents devices.old.writer.now) (W.contents devices.new.writer.now) (outcome_of result) × SaysAll name.now aside (said_of asked.entry.tell (file_of asked.entry) refusals) (seen E.contents E.failures E.waits devices.old.errors.now) (seen E.contents E.failures E.waits devices.new.errors.now) }
     ensures writer { FlushesUnless W.failures W.waits devices.old.writer.now devices.new.writer.now (IsErrOf result (Problem.Failed Failure.Write)) }
     ensures files { UsesUnless F.known F.failures devices.old.files.now devices.new.files.now (spared_beside (file_of asked.entry) name.now) (file_of asked.entry) (IsErrOf result (Problem.Failed Failure.File)) }
     ensures could { IsErrOf result (Problem.Failed Failure.File) → F.can_fail devices.old.files.now name.now ≡ true }
@@ -210,7 +211,7 @@ fn play_file<F: Files, R: Source, W: Sink, E: Sink>(
     devices: &mut Devices<'_, F, R, W, E>,
 ) -> Result<End, Problem>
     ensures devices { SameDevices devices.old devices.new }
-    ensures comes { (known : Option (List ℕ)) → ((bytes : List ℕ) → known ≡ Some bytes → file.now ≡ take 131073 bytes) → ComesOut R.remaining W.contents (seen E.contents E.failures E.waits) (ComesTo known asked.entry.options) asked.entry devices.old devices.new result }
+    ensures comes { (known : Option (List ℕ)) → ((bytes : List ℕ) → known ≡ Some bytes → file.now ≡ take 131073 bytes) → ComesOut R.remaining W.contents (seen E.contents E.failures E.waits) (ComesTo known asked.entry.manner) asked.entry devices.old devices.new result }
     ensures writer { FlushesUnless W.failures W.waits devices.old.writer.now devices.new.writer.now (IsErrOf result (Problem.Failed Failure.Write)) }
     ensures no_file { ¬ IsErrOf result (Problem.Failed Failure.File) }
     ensures reader { Blames (IsErrOf result (Problem.Failed Failure.Read)) (R.failures devices.old.reader.now) (R.failures devices.new.reader.now) }
@@ -230,7 +231,7 @@ pub fn play_by_certificate<F: Files, R: Source, W: Sink, E: Sink>(
     devices: &mut Devices<'_, F, R, W, E>,
 ) -> Result<End, Problem>
     ensures devices { SameDevices devices.old devices.new }
-    ensures comes { ComesOut R.remaining W.contents (seen E.contents E.failures E.waits) (PlayComesTo (F.known devices.old.files.now story.now) (F.known devices.old.files.now certificate.now) asked.entry.options) asked.entry devices.old devices.new result }
+    ensures comes { ComesOut R.remaining W.contents (seen E.contents E.failures E.waits) (PlayComesTo (F.known devices.old.files.now story.now) (F.known devices.old.files.now certificate.now) asked.entry.manner) asked.entry devices.old devices.new result }
     ensures writer { FlushesUnless W.failures W.waits devices.old.writer.now devices.new.writer.now (IsErrOf result (Problem.Failed Failure.Write)) }
     ensures files { UsesUnless F.known F.failures devices.old.files.now devices.new.files.now (file_of asked.entry) (file_of asked.entry) (IsErrOf result (Problem.Failed Failure.File)) }
     ensures could { IsErrOf result (Problem.Failed Failure.File) → IsOfEither (held F.known F.failures F.can_fail F.blamed devices.old.files.now) story.now certificate.now }
@@ -249,7 +250,7 @@ fn play_accepted<F: Files, R: Source, W: Sink, E: Sink>(
     devices: &mut Devices<'_, F, R, W, E>,
 ) -> Result<End, Problem>
     ensures devices { SameDevices devices.old devices.new }
-    ensures comes { (story certificate : Option (List ℕ)) → IsAcceptedStory story certificate accepted.now → ComesOut R.remaining W.contents (seen E.contents E.failures E.waits) (PlayComesTo story certificate asked.entry.options) asked.entry devices.old devices.new result }
+    ensures comes { (story certificate : Option (List ℕ)) → IsAcceptedStory story certificate accepted.now → ComesOut R.remaining W.contents (seen E.contents E.failures E.waits) (PlayComesTo story certificate asked.entry.manner) asked.entry devices.old devices.new result }
     ensures writer { FlushesUnless W.failures W.waits devices.old.writer.now devices.new.writer.now (IsErrOf result (Problem.Failed Failure.Write)) }
     ensures no_file { ¬ IsErrOf result (Problem.Failed Failure.File) }
     ensures reader { Blames (IsErrOf result (Problem.Failed Failure.Read)) (R.failures devices.old.reader.now) (R.failures devices.new.reader.now) }
@@ -275,7 +276,7 @@ pub fn play_saving<P: Playable, F: Files, R: Source, W: Sink, E: Sink>(
 ) -> Result<End, Problem>
     requires opened { lenience.old ≡ record { front = opened; notes = none_noted } }
     ensures devices { SameDevices devices.old devices.new }
-    ensures comes { ComesOut R.remaining W.contents (seen E.contents E.failures E.waits) (P.Comes playable.now asked.entry.options lenience.new.notes) asked.entry devices.old devices.new result }
+    ensures comes { ComesOut R.remaining W.contents (seen E.contents E.failures E.waits) (P.Comes playable.now asked.entry.manner lenience.new.notes) asked.entry devices.old devices.new result }
     ensures writer { FlushesUnless W.failures W.waits devices.old.writer.now devices.new.writer.now (IsErrOf result (Problem.Failed Failure.Write)) }
     ensures no_file { ¬ IsErrOf result (Problem.Failed Failure.File) }
     ensures reader { Blames (IsErrOf result (Problem.Failed Failure.Read)) (R.failures devices.old.reader.now) (R.failures devices.new.reader.now) }
@@ -318,12 +319,12 @@ fn play_keeping<P: Playable, S: SaveStore, R: Source, W: Sink>(
     writer: &mut W,
 ) -> Result<End, Problem>
     requires opened { lenience.old ≡ record { front = opened; notes = none_noted } }
-    ensures comes { ComesOutOf S.kept S.failures S.Follows (λ s. P.Comes playable.now asked.entry.options lenience.new.notes (given (R.remaining reader.old) asked.entry.seed s)) store.old store.new (W.contents writer.old) (W.contents writer.new) result }
+    ensures comes { ComesOutOf S.kept S.failures S.Follows (λ s. P.Comes playable.now asked.entry.manner lenience.new.notes (given (R.remaining reader.old) asked.entry.seed s)) store.old store.new (W.contents writer.old) (W.contents writer.new) result }
     ensures writer { FlushesUnless W.failures W.waits writer.old writer.new (IsErrOf result (Problem.Failed Failure.Write)) }
     ensures no_file { ¬ IsErrOf result (Problem.Failed Failure.File) }
     ensures reader { Blames (IsErrOf result (Problem.Failed Failure.Read)) (R.failures reader.old) (R.failures reader.new) }
 {
     let mut words = Seeded::new(asked.seed);
     let mut world = World::new(reader, writer, store, &mut words);
-    playable.play(alloc, asked.options, lenience, &mut world)
+    playable.play(alloc, asked.manner, lenience, &mut world)
 }

@@ -25,7 +25,7 @@ returns-in-Accepted-clause-comes g c =
     let came = c.play_accepted.ensures.comes (from.known name) (from.known (name_of_certificate name)) accepted in (
       Used,
       came.0,
-      plays_used from later name (file_of c.args.asked) c.args.asked.options _ _ came.0 _ _ c.in-Accepted.accepted accepted came.1 (λ none. ap g.F.Files.failures (c.play_accepted.ensures.unsaved none) ∙ counts ∙ read.blamed.1 (λ e. cc)),
+      plays_used from later name (file_of c.args.asked) c.args.asked.manner _ _ came.0 _ _ c.in-Accepted.accepted accepted came.1 (λ none. ap g.F.Files.failures (c.play_accepted.ensures.unsaved none) ∙ counts ∙ read.blamed.1 (λ e. cc)),
       (_, refl, came.2),
     )
 
@@ -52,7 +52,7 @@ returns-in-Absent-clause-comes g c =
     let came = c.play_file.ensures.comes (from.known name) (λ bytes is. search (rules, read.read bytes is)) in (
       Absent,
       came.0,
-      plays_absent from later name (file_of c.args.asked) c.args.asked.options _ _ came.0 _ _ absent came.1 (λ none. ap g.F.Files.failures (c.play_file.ensures.unsaved none) ∙ counts ∙ read.files.blamed.1 (λ e. cc)),
+      plays_absent from later name (file_of c.args.asked) c.args.asked.manner _ _ came.0 _ _ absent came.1 (λ none. ap g.F.Files.failures (c.play_file.ensures.unsaved none) ∙ counts ∙ read.files.blamed.1 (λ e. cc)),
       (_, refl, came.2),
     )
 
@@ -80,6 +80,6 @@ returns-clause-comes g c =
     let said = subst (λ (n : List ℕ). SaysUnused n blame problem old new) named blamed in (
       Unused blame problem,
       came.0,
-      plays_unused from later name (file_of c.args.asked) c.args.asked.options _ _ came.0 _ _ blame problem unused came.1 (λ still none. ap g.F.Files.failures (c.play_file-in-Unaccepted.ensures.unsaved none) ∙ uncounted _ _ blame problem counts still ∙ read.files.blamed.1 (λ e. cc)),
+      plays_unused from later name (file_of c.args.asked) c.args.asked.manner _ _ came.0 _ _ blame problem unused came.1 (λ still none. ap g.F.Files.failures (c.play_file-in-Unaccepted.ensures.unsaved none) ∙ uncounted _ _ blame problem counts still ∙ read.files.blamed.1 (λ e. cc)),
       (_, said, came.2),
     )

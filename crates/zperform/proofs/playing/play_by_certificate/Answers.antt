@@ -13,7 +13,7 @@ returns-in_err-accepted-clause-comes g c =
     let world = given (g.R.Source.remaining c.args.devices.now.reader.now) c.args.asked.seed (store_of (file_of c.args.asked)) in
     let taken = g.W.Sink.contents c.args.devices.now.writer.now in
     let problem = c.in_err-accepted.field-0.0 in
-    ([], handed_on (λ outcome. PlayComesTo story certificate c.args.asked.options world [] taken taken outcome) c.from_residual.result problem c.from_residual.ensures (unplayed story certificate c.args.asked.options world taken problem c.in_err-accepted.ensures.refused), refl)
+    ([], handed_on (λ outcome. PlayComesTo story certificate c.args.asked.manner world [] taken taken outcome) c.from_residual.result problem c.from_residual.ensures (unplayed story certificate c.args.asked.manner world taken problem c.in_err-accepted.ensures.refused), refl)
 
 pub returns-clause-comes : goal.returns-clause-comes
 returns-clause-comes g c = c.play_accepted.ensures.comes _ _ c.in_ok-accepted.ensures.accepted

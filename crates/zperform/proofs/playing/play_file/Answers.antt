@@ -7,15 +7,15 @@ use Rattle.zperform.proofs.playing.play_file.Goals as goal
 
 pub returns-in_err-story-clause-comes : goal.returns-in_err-story-clause-comes
 returns-in_err-story-clause-comes g c =
-    let options = c.args.asked.options in
+    let manner = c.args.asked.manner in
     let world = given (g.R.Source.remaining c.args.devices.now.reader.now) c.args.asked.seed (store_of (file_of c.args.asked)) in
     let taken = g.W.Sink.contents c.args.devices.now.writer.now in
     let problem = c.in_err-story.field-0.0 in
     let file = c.args.file.now in
     λ known part. (
       [],
-      passed_on known options world [] taken taken _ problem c.from_residual.ensures
-          (of_part known file options world [] taken taken part (Stopped problem) (unloaded_comes file options world taken problem c.in_err-story.ensures.unloaded)),
+      passed_on known manner world [] taken taken _ problem c.from_residual.ensures
+          (of_part known file manner world [] taken taken part (Stopped problem) (unloaded_comes file manner world taken problem c.in_err-story.ensures.unloaded)),
       refl,
     )
 

@@ -12,7 +12,7 @@ returns-in-Some-clause-comes g c =
     let came = c.play_keeping.ensures.comes in
     rw c.in-Some.is (
       came.0,
-      with_store (λ (s : Store). g.P.Playable.Comes c.args.playable.now c.args.asked.options c.play_keeping.new.lenience.notes (given (g.R.Source.remaining from.reader.now) c.args.asked.seed s) came.0 (g.W.Sink.contents from.writer.now) (g.W.Sink.contents c.play_keeping.new.writer) (outcome_of c.play_keeping.result)) None c.new-store.result.failures c.new-store.ensures.fresh (came.1 (λ empty. absurd cc)),
+      with_store (λ (s : Store). g.P.Playable.Comes c.args.playable.now c.args.asked.manner c.play_keeping.new.lenience.notes (given (g.R.Source.remaining from.reader.now) c.args.asked.seed s) came.0 (g.W.Sink.contents from.writer.now) (g.W.Sink.contents c.play_keeping.new.writer) (outcome_of c.play_keeping.result)) None c.new-store.result.failures c.new-store.ensures.fresh (came.1 (λ empty. absurd cc)),
       said_back g.E.Sink.contents g.E.Sink.failures g.E.Sink.waits c.args.asked.tell _ came.0 _ _ _ _ c.new-store.ensures.told c.new-store.ensures.errors (search rules) came.2.5,
     )
 
@@ -22,6 +22,6 @@ returns-in-None-clause-comes g c =
     let came = c.play_keeping-in-None.ensures.comes in
     rw c.in-None.is (
       came.0,
-      with_store (λ (s : Store). g.P.Playable.Comes c.args.playable.now c.args.asked.options c.play_keeping-in-None.new.lenience.notes (given (g.R.Source.remaining from.reader.now) c.args.asked.seed s) came.0 (g.W.Sink.contents from.writer.now) (g.W.Sink.contents c.play_keeping-in-None.new.writer) (outcome_of c.play_keeping-in-None.result)) (Some None) c.new.result.failures c.new.ensures (came.1 (λ empty. refl)),
+      with_store (λ (s : Store). g.P.Playable.Comes c.args.playable.now c.args.asked.manner c.play_keeping-in-None.new.lenience.notes (given (g.R.Source.remaining from.reader.now) c.args.asked.seed s) came.0 (g.W.Sink.contents from.writer.now) (g.W.Sink.contents c.play_keeping-in-None.new.writer) (outcome_of c.play_keeping-in-None.result)) (Some None) c.new.result.failures c.new.ensures (came.1 (λ empty. refl)),
       said_nowhere c.args.asked.tell came.0 _,
     )

@@ -16,7 +16,7 @@ returns-in_err-machine-clause-comes g c =
     let begun = world (g.R.Source.remaining from.reader.now) (g.G.Words.coming from.words.now) (told g.S.SaveStore.kept g.S.SaveStore.failures from.store.now []) in
     let none = ap (λ (l : Lenience). l.notes) c.requires.opened in (
       [],
-      λ unsaved known holds. handed_on (ExcusedOut known c.args.options c.args.lenience.now.notes begun [] before before) c.from_residual.result _ c.from_residual.ensures (Err (Failed Memory), refl, unopened known c.args.self.now.story.now holds c.args.options _ none begun before),
+      λ unsaved known holds. handed_on (ExcusedOut known c.args.manner.options c.args.lenience.now.notes begun [] before before) c.from_residual.result _ c.from_residual.ensures (Err (Failed Memory), refl, unopened known c.args.self.now.story.now holds c.args.manner.options _ none begun before),
       g.met.S.SaveStore.itself _,
     )
 
@@ -29,8 +29,8 @@ returns-in_err-end-clause-comes g c =
     let begun = world (g.R.Source.remaining from.reader.now) (g.G.Words.coming from.words.now) (told g.S.SaveStore.kept g.S.SaveStore.failures from.store.now []) in
     let came = c.in_err-end.ensures.comes in (
       came.1,
-      λ unsaved known holds. handed_on (ExcusedOut known c.args.options c.play_leniently.new.lenience.notes begun came.1 before now) c.from_residual-in_err-end.result (problem_of_play error) c.from_residual-in_err-end.ensures
-          (Err (problem_of_play error), refl, broken known c.args.self.now.story.now holds c.args.options _ c.in_ok-machine.ensures c.args.lenience.now c.requires.opened begun _ _ _ _ _ unsaved _ refl c.play_leniently.new.lenience came.0 came.3 error came.2),
+      λ unsaved known holds. handed_on (ExcusedOut known c.args.manner.options c.play_leniently.new.lenience.notes begun came.1 before now) c.from_residual-in_err-end.result (problem_of_play error) c.from_residual-in_err-end.ensures
+          (Err (problem_of_play error), refl, broken known c.args.self.now.story.now holds c.args.manner.options _ c.in_ok-machine.ensures c.args.lenience.now c.requires.opened begun _ _ _ _ _ unsaved _ refl c.play_leniently.new.lenience came.0 came.3 error came.2),
       came.4,
     )
 
@@ -49,6 +49,6 @@ returns-clause-comes g c =
     let begun = world (g.R.Source.remaining from.reader.now) (g.G.Words.coming from.words.now) (told g.S.SaveStore.kept g.S.SaveStore.failures from.store.now []) in
     let came = c.in_ok-end.ensures.comes in (
       came.1,
-      λ unsaved known holds. (Ok c.in_ok-end.end, refl, ended known c.args.self.now.story.now holds c.args.options _ c.in_ok-machine.ensures c.args.lenience.now c.requires.opened begun _ _ _ _ _ unsaved _ refl c.play_leniently.new.lenience came.0 came.3 c.in_ok-end.end came.2),
+      λ unsaved known holds. (Ok c.in_ok-end.end, refl, ended known c.args.self.now.story.now holds c.args.manner.options _ c.in_ok-machine.ensures c.args.lenience.now c.requires.opened begun _ _ _ _ _ unsaved _ refl c.play_leniently.new.lenience came.0 came.3 c.in_ok-end.end came.2),
       came.4,
     )

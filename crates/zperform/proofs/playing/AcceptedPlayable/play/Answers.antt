@@ -12,12 +12,15 @@ returns-in_err-end-clause-comes g c =
     let error = c.in_err-end.field-0.0 in
     let from = c.args.world.now in
     let before = g.W.Sink.contents from.writer.now in
-    let now = g.W.Sink.contents c.play_story.new.world.writer.now in
+    let now = g.W.Sink.contents c.play_story_in.new.world.writer.now in
     let begun = world (g.R.Source.remaining from.reader.now) (g.G.Words.coming from.words.now) (told g.S.SaveStore.kept g.S.SaveStore.failures from.store.now []) in
-    let came = c.in_err-end.ensures.comes in (
+    let state = c.play_story_in.new.session.state in
+    let words = g.G.Words.coming c.play_story_in.new.world.words.now in
+    let came = c.in_err-end.ensures.comes in
+    let store = told g.S.SaveStore.kept g.S.SaveStore.failures c.play_story_in.new.world.store.now came.0 in (
       came.0,
-      λ unsaved story certificate accepted. handed_on (λ outcome. PlayEnds o format story certificate c.args.options begun came.0 before now outcome) c.from_residual-in_err-end.result (problem_of_play error) c.from_residual-in_err-end.ensures
-          (broken o format story certificate c.args.options begun came.0 before c.args.self.now accepted _ c.in_ok-session.ensures now _ _ _ unsaved refl error came.1),
+      λ unsaved story certificate accepted. handed_on (λ outcome. PlayEnds o format story certificate c.args.manner begun came.0 before now outcome) c.from_residual-in_err-end.result (problem_of_play error) c.from_residual-in_err-end.ensures
+          (broken o format story certificate c.args.manner begun came.0 before c.args.self.now accepted _ c.in_ok-session.ensures now state words store unsaved refl error came.1),
       came.2,
     )
 
@@ -38,7 +41,7 @@ returns-in_err-session-clause-comes g c =
     let before = g.W.Sink.contents from.writer.now in
     let begun = world (g.R.Source.remaining from.reader.now) (g.G.Words.coming from.words.now) (told g.S.SaveStore.kept g.S.SaveStore.failures from.store.now []) in (
       [],
-      λ unsaved story certificate accepted. handed_on (λ outcome. PlayEnds o format story certificate c.args.options begun [] before before outcome) c.from_residual.result _ c.from_residual.ensures (inl (refl, refl, unopened o format story certificate c.args.self.now accepted)),
+      λ unsaved story certificate accepted. handed_on (λ outcome. PlayEnds o format story certificate c.args.manner begun [] before before outcome) c.from_residual.result _ c.from_residual.ensures (inl (refl, refl, unopened o format story certificate c.args.self.now accepted)),
       g.met.S.SaveStore.itself _,
     )
 
@@ -49,10 +52,13 @@ returns-clause-comes g c =
     let known = c.in_ok-end.ensures in
     let from = c.args.world.now in
     let before = g.W.Sink.contents from.writer.now in
-    let now = g.W.Sink.contents c.play_story.new.world.writer.now in
+    let now = g.W.Sink.contents c.play_story_in.new.world.writer.now in
     let begun = world (g.R.Source.remaining from.reader.now) (g.G.Words.coming from.words.now) (told g.S.SaveStore.kept g.S.SaveStore.failures from.store.now []) in
-    let came = known.comes in (
+    let state = c.play_story_in.new.session.state in
+    let words = g.G.Words.coming c.play_story_in.new.world.words.now in
+    let came = known.comes in
+    let store = told g.S.SaveStore.kept g.S.SaveStore.failures c.play_story_in.new.world.store.now came.0 in (
       came.0,
-      λ unsaved story certificate accepted. played o format story certificate c.args.options begun came.0 before c.args.self.now accepted _ c.in_ok-session.ensures now _ _ _ unsaved refl c.in_ok-end.end came.1 known.no_fault,
+      λ unsaved story certificate accepted. played o format story certificate c.args.manner begun came.0 before c.args.self.now accepted _ c.in_ok-session.ensures now state words store unsaved refl c.in_ok-end.end came.1 known.no_fault,
       came.2,
     )

@@ -13,7 +13,7 @@ returns-in_err-machine-clause-comes g c =
     let before = g.W.Sink.contents from.writer.now in
     let begun = world (g.R.Source.remaining from.reader.now) (g.G.Words.coming from.words.now) (told g.S.SaveStore.kept g.S.SaveStore.failures from.store.now []) in (
       [],
-      λ unsaved file holds. passed_on (Some file) c.args.options begun [] before before c.from_residual.result _ c.from_residual.ensures (unloaded_comes file c.args.options begun before (Failed Memory) holds.no_cause),
+      λ unsaved file holds. passed_on (Some file) c.args.manner begun [] before before c.from_residual.result _ c.from_residual.ensures (unloaded_comes file c.args.manner begun before (Failed Memory) holds.no_cause),
       g.met.S.SaveStore.itself _,
     )
 
@@ -22,12 +22,15 @@ returns-in_err-end-clause-comes g c =
     let error = c.in_err-end.field-0.0 in
     let from = c.args.world.now in
     let before = g.W.Sink.contents from.writer.now in
-    let now = g.W.Sink.contents c.play_checked.new.world.writer.now in
+    let now = g.W.Sink.contents c.play_checked_in.new.world.writer.now in
     let begun = world (g.R.Source.remaining from.reader.now) (g.G.Words.coming from.words.now) (told g.S.SaveStore.kept g.S.SaveStore.failures from.store.now []) in
-    let came = c.in_err-end.ensures.comes in (
+    let state = c.play_checked_in.new.machine.state in
+    let words = g.G.Words.coming c.play_checked_in.new.world.words.now in
+    let came = c.in_err-end.ensures.comes in
+    let store = told g.S.SaveStore.kept g.S.SaveStore.failures c.play_checked_in.new.world.store.now came.0 in (
       came.0,
-      λ unsaved file holds. passed_on (Some file) c.args.options begun came.0 before now c.from_residual-in_err-end.result (problem_of_play error) c.from_residual-in_err-end.ensures
-          (broken file c.args.self.now holds c.args.options _ c.in_ok-machine.ensures begun _ _ _ _ _ unsaved _ refl error came.1),
+      λ unsaved file holds. passed_on (Some file) c.args.manner begun came.0 before now c.from_residual-in_err-end.result (problem_of_play error) c.from_residual-in_err-end.ensures
+          (broken file c.args.self.now holds c.args.manner _ c.in_ok-machine.ensures begun before now state words store unsaved came.0 refl error came.1),
       came.2,
     )
 
@@ -44,8 +47,13 @@ pub returns-clause-comes : goal.returns-clause-comes
 returns-clause-comes g c =
     let from = c.args.world.now in
     let begun = world (g.R.Source.remaining from.reader.now) (g.G.Words.coming from.words.now) (told g.S.SaveStore.kept g.S.SaveStore.failures from.store.now []) in
-    let came = c.in_ok-end.ensures.comes in (
+    let before = g.W.Sink.contents from.writer.now in
+    let now = g.W.Sink.contents c.play_checked_in.new.world.writer.now in
+    let state = c.play_checked_in.new.machine.state in
+    let words = g.G.Words.coming c.play_checked_in.new.world.words.now in
+    let came = c.in_ok-end.ensures.comes in
+    let store = told g.S.SaveStore.kept g.S.SaveStore.failures c.play_checked_in.new.world.store.now came.0 in (
       came.0,
-      λ unsaved file holds. ended file c.args.self.now holds c.args.options _ c.in_ok-machine.ensures begun _ _ _ _ _ unsaved _ refl _ came.1,
+      λ unsaved file holds. ended file c.args.self.now holds c.args.manner _ c.in_ok-machine.ensures begun before now state words store unsaved came.0 refl c.in_ok-end.end came.1,
       came.2,
     )
