@@ -161,7 +161,8 @@ def see_stops(program, count):
             said = {"TERM": "xterm", "LINES": str(rows + 1)}
             shown = on_terminal(program, folder, ["play", "g.z3"], "40", [b"\n"] * stops, **said)
             count.see(shown.startswith(OPENED + wanted), f"{rows} rows: {shown[:400]!r}, and not {wanted[:400]!r}")
-        for words, said in ((["--plain"], {"TERM": "xterm"}), ([], {"TERM": "dumb"}), ([], {}), ([], {"TERM": ""})):
+        named = {"TERM": "xterm"}
+        for words, said in ((["--plain"], named), (["--plain", "--framed-status"], named), ([], {"TERM": "dumb"}), ([], {}), ([], {"TERM": ""})):
             shown = on_terminal(program, folder, ["play", *words, "g.z3"], "40", [], LINES="4", **said)
             count.see(b"more" not in shown and b"\x1b" not in shown, f"no stop wanted with {words}, {said}: {shown[:300]!r}")
 

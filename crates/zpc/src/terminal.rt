@@ -42,7 +42,9 @@ pub fn shape_of(rt: &HostRuntime, asked: Option<Asked<'_>>) -> Shape {
         return AS_IT_IS;
     };
     let heading = match asked.status {
-        StatusLines::Framed if moves_cursor(rt) => Some(columns_asked(rt, asked)),
+        StatusLines::Framed if moves_cursor(rt) && !asked.front.plain => {
+            Some(columns_asked(rt, asked))
+        }
         _ => None,
     };
     Shape {
