@@ -159,7 +159,7 @@ def excused(program, count):
 
 def taken_back(program, count):
     """Lines that are taken back, as many as are kept, in the newest of as many frames as there may be, in as much dynamic memory as leaves room
-    for code. Behind each line the story prints a letter and reads the next one."""
+    for code, on both machines. Behind each line the story prints a letter and reads the next one."""
     room, buffer, parse = 64700, STATIC, STATIC + 300
     place = CODE + room + 12
     main = b"\xe0\x0f" + word(place // 2) + word(MOST - 1) + b"\x10" + b"\xe6\xbf\x10" + QUIT + b"\0"
@@ -169,8 +169,12 @@ def taken_back(program, count):
     made = changed(changed(story(main + called + asked, room=room), buffer, 20), parse, 2)
     typed = b"x\n" * 150 + b"/undo\n" * 101
     wanted = b"a" * 150 + b"[undone]\n\n>" * 100 + b"[nothing to undo]\n\n>"
-    answer = program.run(["play", "--commands", "story"], {"story": made}, typed=typed)
-    count.is_answer("100 of 150 lines taken back", answer, Answer(0, wanted, b"end: no input\n"))
+    answer, listed = program.found(made, flags=("--frames", str(MOST)))
+    count.is_answer("a story whose lines are taken back", answer, Answer(0, b"found\n", b""))
+    files = {"story": made, "certificate": listed or b""}
+    for words in (["story"], ["story", "certificate"]):
+        answer = program.run(["play", "--commands", *words], files, typed=typed)
+        count.is_answer(f"100 of 150 lines taken back, {words}", answer, Answer(0, wanted, b"end: no input\n"))
 
 
 def most_callees(program, count):
